@@ -1,0 +1,67 @@
+// The three measures, the object's fields, the scissor, and the verdicts.
+
+// 10.2: widths, heights and frame positions, in quarters of a texel.
+pub struct Quarters(pub i64);
+
+// 10.5: image_x, image_y and the origin, in thirty-seconds of a texel.
+pub struct ThirtySeconds(pub i64);
+
+// 5.10: scales, in 1,024ths.
+pub struct Scale(pub u64);
+
+// A decoded background; fields outside its kind are 0.
+pub struct ObjBg {
+    pub image_x: ThirtySeconds,
+    pub image_w: Quarters,
+    pub frame_x: Quarters,
+    pub frame_w: Quarters,
+    pub image_y: ThirtySeconds,
+    pub image_h: Quarters,
+    pub frame_y: Quarters,
+    pub frame_h: Quarters,
+    pub image_ptr: u64,
+    pub image_load: u16,
+    pub image_fmt: u8,
+    pub image_siz: u8,
+    pub image_pal: u16,
+    pub image_flip: u16,
+    pub tmem_w: u16,
+    pub tmem_h: u16,
+    pub tmem_load_sh: u16,
+    pub tmem_load_th: u16,
+    pub tmem_size_w: u16,
+    pub tmem_size: u16,
+    pub scale_w: Scale,
+    pub scale_h: Scale,
+    pub image_y_orig: ThirtySeconds,
+}
+
+// The scissor's edges, in whole pixels.
+pub struct Scissor {
+    pub ulx: i32,
+    pub uly: i32,
+    pub lrx: i32,
+    pub lry: i32,
+}
+
+// How a plan ended; document 01 numbers them from 0 in this order.
+pub enum Verdict {
+    Finished,
+    Opcode,
+    Short,
+    Scissor,
+    Object,
+    Copy,
+    Slices,
+    TooBig,
+    Piece,
+    Address,
+    Full,
+}
+
+// What the checks of a request give: a background of one kind, or the first verdict that applies.
+pub enum Checked {
+    Copy(ObjBg),
+    Scaled(ObjBg),
+    Refused(Verdict),
+}

@@ -1,0 +1,18 @@
+pub fn least ( a : u64 , b : u64 ) -> u64 ;
+pub fn most ( a : u64 , b : u64 ) -> u64 ;
+pub fn minus ( a : u64 , b : u64 ) -> u64 ;
+pub fn positive ( z : i64 ) -> u64 ;
+pub fn floor_div ( a : i64 , b : u64 ) -> i64 ;
+pub fn rem_euclid ( a : i64 , b : u64 ) -> u64 ;
+pub fn low5 ( x : u64 ) -> u64 ;
+pub fn low10 ( x : u64 ) -> u64 ;
+pub fn signed_low10 ( x : i64 ) -> u64 ;
+pub fn clear2 ( x : i64 ) -> i64 ;
+pub fn clear10 ( x : i64 ) -> i64 ;
+pub fn rows5 ( x : i64 ) -> i64 ;
+pub fn shift10 ( x : i64 ) -> i64 ;
+pub fn low8 ( x : u16 ) -> u8 ;
+pub fn low16 ( x : i64 ) -> u16 ;
+pub fn signed16 ( x : i64 ) -> i16 ;
+pub fn wide ( x : i16 ) -> i64 ;
+pub fn word_of ( x : i64 ) -> u64 ;
