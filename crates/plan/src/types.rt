@@ -1,0 +1,168 @@
+// The entries and ends of plans, and the numbers of both planners, with the names of the Rust.
+use object::Verdict;
+
+// One entry of a plan.
+pub enum Entry {
+    Image {
+        fmt: u8,
+        siz: u8,
+        width: u16,
+        address: u64,
+    },
+    Tile {
+        index: u8,
+        fmt: u8,
+        siz: u8,
+        line: u16,
+        tmem: u16,
+        palette: u8,
+        cms: u8,
+        cmt: u8,
+        masks: u8,
+        maskt: u8,
+    },
+    Size {
+        index: u8,
+        uls: u16,
+        ult: u16,
+        lrs: u16,
+        lrt: u16,
+    },
+    Load {
+        index: u8,
+        uls: u16,
+        ult: u16,
+        lrs: u16,
+        lrt: u16,
+        words: u64,
+        rows: u64,
+        stride: u64,
+        start: u64,
+        length: u64,
+    },
+    Rect {
+        tile: u8,
+        ulx: u64,
+        uly: u64,
+        lrx: u64,
+        lry: u64,
+        uls: i16,
+        ult: i16,
+        dsdx: i16,
+        dtdy: i16,
+        row: u64,
+    },
+}
+
+// How a plan ended: its verdict, and what was given before it.
+pub struct End {
+    pub verdict: Verdict,
+    pub entries: u64,
+    pub rectangles: u64,
+    pub words: u64,
+}
+
+// What one step of a planner answers.
+pub enum Answer {
+    Entry(Entry),
+    End(End),
+}
+
+// What no strip of a copy plan changes, in cells of 4 units.
+pub struct Copy {
+    pub fmt: u8,
+    pub siz: u8,
+    pub palette: u8,
+    pub flip: bool,
+    pub address: u64,
+    pub rows: u64,
+    pub image_width: u64,
+    pub image_height: u64,
+    pub frame_cells: u64,
+    pub left: u64,
+    pub top: u64,
+    pub width: u64,
+    pub height: u64,
+    pub source_x: u64,
+    pub source_y: u64,
+    pub x_skip: u64,
+    pub capacity: u64,
+    pub texels_per_word: u64,
+}
+
+// The columns of a copy strip.
+pub struct Strip {
+    pub strip_width: u64,
+    pub aligned_left: u64,
+    pub offset: u64,
+    pub load_width: u64,
+    pub line: u64,
+}
+
+// A scaled frame clipped by the scissor, in units.
+pub struct Clip {
+    pub flip: bool,
+    pub left: u64,
+    pub top: u64,
+    pub right: u64,
+    pub x: u64,
+    pub y: u64,
+    pub width: u64,
+    pub height: u64,
+}
+
+// Where a scaled frame starts in the image, in thirty-seconds.
+pub struct Start {
+    pub image_x: u64,
+    pub image_y: u64,
+    pub origin: i64,
+    pub carry: u64,
+    pub wrap: u64,
+}
+
+// What no pass of a scaled plan changes.
+pub struct Scaled {
+    pub fmt: u8,
+    pub siz: u8,
+    pub palette: u8,
+    pub address: u64,
+    pub x: u64,
+    pub x_end: u64,
+    pub scale_w: u64,
+    pub scale_h: u64,
+    pub bilerp: u64,
+    pub split: u64,
+    pub source_rows: u64,
+    pub line: u64,
+    pub image_rows: u64,
+    pub frame_rows: u64,
+    pub stride: u64,
+    pub x_offset: u64,
+    pub s: i64,
+}
+
+// The first strip of a scaled plan.
+pub struct First {
+    pub slice: i64,
+    pub image_hidden: i64,
+    pub count: i64,
+    pub t: u64,
+    pub slice_rows: i64,
+    pub image_row: u64,
+}
+
+// Where the next rows of a scaled plan come from, and the rows left in the image.
+pub struct Source {
+    pub pointer: u64,
+    pub remain: i64,
+}
+
+// What a pass of a scaled plan changes.
+pub struct Walk {
+    pub frame_y: u64,
+    pub frame_remain: i64,
+    pub count: i64,
+    pub slice_rows: i64,
+    pub t: u64,
+    pub source: Source,
+}

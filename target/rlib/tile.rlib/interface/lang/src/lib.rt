@@ -1,0 +1,10 @@
+mod bank ;
+mod load ;
+pub use bank :: Bank ;
+pub use bank :: Tile ;
+pub use bank :: set_tile ;
+pub use bank :: set_tile_size ;
+pub use bank :: with_tile ;
+pub use bank :: with_tile_size ;
+pub use load :: LoadRequest ;
+pub use load :: load_request ;
