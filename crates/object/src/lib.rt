@@ -2,6 +2,7 @@
 mod decode;
 mod measure;
 mod types;
+
 pub use types::Checked;
 pub use types::ObjBg;
 pub use types::Quarters;

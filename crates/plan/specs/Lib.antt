@@ -10,3 +10,4 @@ pub mod Ties
 pub mod Laws
 pub mod Steps
 pub mod Next
+pub mod Sound

@@ -1,5 +1,6 @@
 // Plans of background objects: their entries and ends, and what both planners compute with.
 mod types;
+
 pub use types::Answer;
 pub use types::Clip;
 pub use types::Copy;

@@ -62,11 +62,7 @@ pub fn with_tile(bank: Bank, index: usize, tile: Tile) -> Bank
 fn texels(low: u16, high: u16) -> u16
     ensures { λ r. ⌜ r ≡ extent low high ⌝ }
 {
-    if low < high {
-        (high - low) / 4 + 1
-    } else {
-        1
-    }
+    if low < high { (high - low) / 4 + 1 } else { 1 }
 }
 
 // Sets a tile's bounds, and the width and height that follow; nothing where there is no such tile.

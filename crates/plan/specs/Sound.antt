@@ -1,0 +1,62 @@
+-- The ranges of a plan's numbers: what the set-up of each mode promises, and what its walk needs so that no sum overflows.
+-- Assumes nothing.
+use mathlib.Core.Path.{_≡_}
+use Prim.Native.Nat.{ℕ, _+_, _/_, _^_, _≤_, _<_}
+use lib.IntN.{ℤ, pos, negℤ}
+use lib.Signed.{_≤ℤ_}
+use Rattle.plan.specs.declared.types.Copy.{Copy}
+use Rattle.plan.specs.declared.types.Scaled.{Scaled}
+use Rattle.plan.specs.declared.types.First.{First}
+
+-- a copy plan of a frame that is not empty
+pub record SoundCopy (c : Copy) : Type 0 where
+  pub siz : c .siz ≤ 3
+  pub rows : 1 ≤ c .rows
+  pub rows′ : c .rows ≤ 16383
+  pub image-width : 1 ≤ c .«image_width»
+  pub image-width′ : c .«image_width» ≤ 16383
+  pub image-height : 1 ≤ c .«image_height»
+  pub image-height′ : c .«image_height» ≤ 16383
+  pub frame-cells : c .«frame_cells» ≤ 16383
+  pub left : c .left ≤ 4092
+  pub top : c .top ≤ 4092
+  pub width : 1 ≤ c .width
+  pub width′ : c .width ≤ 1023
+  pub height : 1 ≤ c .height
+  pub height′ : c .height ≤ 1023
+  pub source-x : c .«source_x» ≤ 2047
+  pub source-y : c .«source_y» ≤ 65535
+  pub x-skip : c .«x_skip» ≤ 65535
+  pub capacity : c .capacity ≤ 512
+  pub texels-per-word : c .«texels_per_word» ≡ 16 / 2 ^ c .siz
+
+-- a scaled plan that verdict 6 has passed
+pub record SoundScaled (z : Scaled) : Type 0 where
+  pub siz : z .siz ≤ 3
+  pub line : 1 ≤ z .line
+  pub line′ : z .line ≤ 512
+  pub image-rows : 1 ≤ z .«image_rows»
+  pub image-rows′ : z .«image_rows» ≤ 512
+  pub frame-rows : 16 ≤ z .«frame_rows»
+  pub frame-rows′ : z .«frame_rows» ≤ 2 ^ 29
+  pub stride : 8 ≤ z .stride
+  pub stride′ : z .stride ≤ 65535
+  pub x-offset : z .«x_offset» ≤ 65535
+  pub source-rows : 1 ≤ z .«source_rows»
+  pub source-rows′ : z .«source_rows» ≤ 16383
+  pub scale-h : 1 ≤ z .«scale_h»
+  pub scale-h′ : z .«scale_h» ≤ 65535
+  pub scale-w′ : z .«scale_w» ≤ 65535
+  pub bilerp : z .bilerp ≤ 1
+  pub split : z .split ≤ 1
+  pub x : z .x ≤ 4092
+  pub x-end : z .«x_end» ≤ 8192
+
+-- the first strip of such a plan
+pub record SoundFirst (z : Scaled) (f : First) : Type 0 where
+  pub count : pos 1 ≤ℤ f .count
+  pub count′ : f .count ≤ℤ pos (2 ^ 30)
+  pub slice-rows : negℤ (pos (2 ^ 27)) ≤ℤ f .«slice_rows»
+  pub slice-rows′ : f .«slice_rows» ≤ℤ pos 512
+  pub t : f .t ≤ 31
+  pub image-row : f .«image_row» < z .«source_rows»
