@@ -12,7 +12,7 @@ use Rattle.signed.specs.Cast.{minZ, u16, i16}
 use Rattle.object.specs.declared.types.Scissor.{Scissor}
 use Rattle.plan.specs.Request.{edge}
 use Rattle.object.specs.declared.types.ObjBg.{ObjBg}
-use Rattle.object.specs.Measure.{quarters, thirtySeconds}
+use Rattle.object.specs.Measure.{quarters, thirtySeconds, texels, wholeTexels}
 use Rattle.plan.specs.declared.types.Entry.{Entry}
 use Rattle.plan.specs.Out.{Out, _>>=_, _>>_, yield, emit, refuse}
 use Rattle.plan.specs.declared.types.Entry.the-variants.{Image, Tile, Size, Load, Rect}
@@ -40,16 +40,16 @@ copyOf bg s address =
       flip = eqb (bg .«image_flip» % 2) 1;
       address = address;
       rows = bg .«tmem_h» / 4;
-      «image_width» = quarters (bg .«image_w») / 4;
-      «image_height» = quarters (bg .«image_h») / 4;
-      «frame_cells» = quarters (bg .«frame_w») / 4;
+      «image_width» = texels (quarters (bg .«image_w»));
+      «image_height» = texels (quarters (bg .«image_h»));
+      «frame_cells» = texels (quarters (bg .«frame_w»));
       left = left;
       top = top;
-      width = up (right -ℤ pos left) / 4;
-      height = up (bottom -ℤ pos top) / 4;
-      «source_x» = thirtySeconds (bg .«image_x») / 32;
-      «source_y» = thirtySeconds (bg .«image_y») / 32 + up (pos top -ℤ bg .«frame_y» .0) / 4;
-      «x_skip» = up (pos left -ℤ bg .«frame_x» .0) / 4;
+      width = texels (up (right -ℤ pos left));
+      height = texels (up (bottom -ℤ pos top));
+      «source_x» = wholeTexels (thirtySeconds (bg .«image_x»));
+      «source_y» = wholeTexels (thirtySeconds (bg .«image_y»)) + texels (up (pos top -ℤ bg .«frame_y» .0));
+      «x_skip» = texels (up (pos left -ℤ bg .«frame_x» .0));
       capacity = copyCapacity (bg .«image_fmt») (bg .«image_siz»);
       «texels_per_word» = 16 / 2 ^ bg .«image_siz»;
     }

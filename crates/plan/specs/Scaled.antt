@@ -13,7 +13,7 @@ use Rattle.signed.specs.Cast.{minZ, clearLow, u16, i16}
 use Rattle.object.specs.declared.types.Scissor.{Scissor}
 use Rattle.plan.specs.Request.{edge}
 use Rattle.object.specs.declared.types.ObjBg.{ObjBg}
-use Rattle.object.specs.Measure.{quarters, thirtySeconds}
+use Rattle.object.specs.Measure.{quarters, thirtySeconds, wholeTexels, inImage, sampledBy, shownAt}
 use Rattle.plan.specs.declared.types.Entry.{Entry}
 use Rattle.plan.specs.Out.{Out, _>>=_, _>>_, yield, emit, refuse}
 use Rattle.plan.specs.declared.types.Entry.the-variants.{Image, Tile, Size, Load, Rect}
@@ -28,7 +28,7 @@ use Rattle.plan.specs.Load.{loadTile, sourceAddress}
 
 -- R 239–240: the frame's greatest extent, by an image extent and its scale
 abbrev pub maxOf : ℕ → ℕ → ℤ
-maxOf n sc = clearLow (pos (n * 1024 / sc) -ℤ pos 1) 4
+maxOf n sc = clearLow (pos (shownAt n sc) -ℤ pos 1) 4
 
 -- R 239–255. x is max(x, 4 × ulx), y likewise, so that `up` cuts nothing there; `width` and `height` are 0 where the Rust's are at most 0
 unfoldable pub clipOf : ObjBg → Scissor → Clip
@@ -61,11 +61,11 @@ scaledEmpty c = eqb (c .width) 0 || eqb (c .height) 0
 -- R 263–264, 268–277
 unfoldable pub startOf : ObjBg → Clip → Start
 startOf bg c =
-    let source-w = quarters (bg .«image_w») * 8 in
-    let source-h = quarters (bg .«image_h») * 8 in
-    let image-x = thirtySeconds (bg .«image_x») + cond (c .flip) (c .right) (c .left) * bg .«scale_w» .0 / 128 in
+    let source-w = inImage (quarters (bg .«image_w»)) in
+    let source-h = inImage (quarters (bg .«image_h»)) in
+    let image-x = thirtySeconds (bg .«image_x») + sampledBy (cond (c .flip) (c .right) (c .left)) (bg .«scale_w» .0) in
     let carry = image-x / source-w in
-    let image-y = thirtySeconds (bg .«image_y») + c .top * bg .«scale_h» .0 / 128 + carry * 32 in
+    let image-y = thirtySeconds (bg .«image_y») + sampledBy (c .top) (bg .«scale_h» .0) + carry * 32 in
     let wrap = image-y / source-h in
     record {
       «image_x» = image-x % source-w;
@@ -84,13 +84,13 @@ unfoldable pub scaledOf : ObjBg → (mode address : ℕ) → Clip → Start → 
 scaledOf bg mode address c i =
     let scale-w = bg .«scale_w» .0 in
     let scale-h = bg .«scale_h» .0 in
-    let source-w = quarters (bg .«image_w») * 8 in
+    let source-w = inImage (quarters (bg .«image_w»)) in
     let bilerp = mode / 8 % 2 in
-    let image-width = c .width * scale-w / 128 in
+    let image-width = sampledBy (c .width) scale-w in
     let shift = 512 / 2 ^ bg .«image_siz» in
     let three = eqb (bg .«image_siz») 3 in
     let capacity = scaledCapacity (bg .«image_fmt») (bg .«image_siz») in
-    let max-slice : ℕ = cond three 0x2800 (min (quarters (bg .«frame_w») * scale-w / 128 + bilerp * 32) source-w) in
+    let max-slice : ℕ = cond three 0x2800 (min (sampledBy (quarters (bg .«frame_w»)) scale-w + bilerp * 32) source-w) in
     let line = (max-slice + (shift - 1)) / shift + 1 in
     let image-rows = capacity / line - bilerp in
     let s = i .«image_x» % shift in
@@ -105,7 +105,7 @@ scaledOf bg mode address c i =
       «scale_h» = scale-h;
       bilerp = bilerp;
       split = cond (leb source-w (i .«image_x» + (image-width + bilerp * 32))) 1 0;
-      «source_rows» = quarters (bg .«image_h») * 8 / 32;
+      «source_rows» = wholeTexels (inImage (quarters (bg .«image_h»)));
       line = line;
       «image_rows» = image-rows;
       «frame_rows» = image-rows * 2 ^ 20 / scale-h;

@@ -92,4 +92,3 @@ unfoldable pub checkedOf : ℕ → List ℕ → ℕ → Scissor → Checked
 checkedOf p bs opcode s =
     refusedBy (opcodeBad opcode) verdict.Opcode
     (refusedBy (short p opcode bs) verdict.Short (refusedBy (scissorBad s) verdict.Scissor (objectOf (copies opcode) (decode p (copies opcode) bs))))
-
