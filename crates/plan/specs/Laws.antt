@@ -23,7 +23,7 @@ use Rattle.plan.specs.Copy.{strip, stripOf, stripEntries, column, column
 use Rattle.plan.specs.declared.types.Scaled.{Scaled}
 use Rattle.plan.specs.declared.types.Walk.{Walk}
 use Rattle.plan.specs.declared.types.Source.{Source}
-use Rattle.plan.specs.Scaled.{nextPass, advance, load1cyc, idlePass, drawPass, pass, passes}
+use Rattle.plan.specs.Scaled.{drawOf, nextPass, advance, load1cyc, idlePass, drawPass, pass, passes}
 
 pub more-nil : {A : Type 0} (a : Out A) → more [] a ≡ a
 more-nil (go es a) = refl
@@ -125,10 +125,7 @@ then : {A B : Type 0} (a : Out A) (es : List Entry) (g : A → B) (k k′ : B �
 then (go fs s) es g k k′ e = ap (more (fs ++ (es ++ []))) (e s)
 then (stop fs l v) es g k k′ e = refl
 
-abbrev drawOf : Walk → ℕ
-drawOf w = up (floorDiv (w .count) 1024)
-
-pass-same : (z : Scaled) (w : Walk) (k k′ : Walk → Out (Unit {0}))
+pub pass-same : (z : Scaled) (w : Walk) (k k′ : Walk → Out (Unit {0}))
     → (eqb (drawOf w) 0 ≡ true → (s : Source) → k (nextPass z (w .«frame_y») (w .«frame_remain») (w .count) s) ≡ k′ (nextPass z (w .«frame_y») (w .«frame_remain») (w .count) s))
     → (eqb (drawOf w) 0 ≡ false → (y : ℕ) (s : Source) → k (nextPass z y (w .«frame_remain» -ℤ pos (drawOf w)) (pos (modulo (w .count) 1024)) s) ≡ k′ (nextPass z y (w .«frame_remain» -ℤ pos (drawOf w)) (pos (modulo (w .count) 1024)) s))
     → (pass z w >>= k) ≡ (pass z w >>= k′)

@@ -144,12 +144,23 @@ sizeOf z = cond (eqb (z .siz) 3) 3 2
 abbrev pub tile7 : Scaled → ℤ → Entry
 tile7 z destination = Tile 7 0 (sizeOf z) (z .line % 2 ^ 16) (u16 destination) 0 0 0 0 0
 
+-- R 148: the width field of the loads' texture image
+abbrev pub fieldOf : Scaled → ℕ
+fieldOf z = u16 (pos (z .stride / 2) -ℤ pos 1)
+
+-- R 149–157: the load's right and lower bound; with 32 bits a load has one row
+abbrev pub lrsOf : ℤ → ℕ
+lrsOf width = u16 ((width -ℤ pos 1) *ℤ pos 16)
+
+abbrev pub lrtOf : Scaled → ℤ → ℕ
+lrtOf z rows = cond (eqb (z .siz) 3) 0 (u16 (rows *ℤ pos 4 -ℤ pos 1))
+
+abbrev pub loadRows : Scaled → (pointer : ℕ) → (rows width : ℤ) → Out (Unit {0})
+loadRows z pointer rows width = loadTile (sizeOf z) (fieldOf z) pointer 7 0 0 (lrsOf width) (lrtOf z rows)
+
 -- R 147–158: the texture image and the load
 unfoldable pub loadPart : Scaled → (pointer : ℕ) → (rows width : ℤ) → Out (Unit {0})
-loadPart z pointer rows width =
-    let field = u16 (pos (z .stride / 2) -ℤ pos 1) in
-    let lrt : ℕ = cond (eqb (z .siz) 3) 0 (u16 (rows *ℤ pos 4 -ℤ pos 1)) in
-    emit (Image 0 (sizeOf z) field pointer) >> loadTile (sizeOf z) field pointer 7 0 0 (u16 ((width -ℤ pos 1) *ℤ pos 16)) lrt
+loadPart z pointer rows width = emit (Image 0 (sizeOf z) (fieldOf z) pointer) >> loadRows z pointer rows width
 
 -- R 118–159 `load_1cyc_tile`; D 8 "a scaled load's rows or width at most 0, or destination negative"
 unfoldable pub load1cycTile : Scaled → (pointer : ℕ) → (rows destination width : ℤ) → (set-tile : Bool) → Out (Unit {0})
@@ -225,26 +236,44 @@ nextPass z frame-y frame-remain count source =
 abbrev pub rowOf : Scaled → ℤ → ℕ
 rowOf z remain = modulo (pos (z .«source_rows») -ℤ remain) (z .«source_rows»)
 
+-- R 366: the lines left after a pass that draws; below 0 where it would draw too many
+abbrev pub leftAfter : Walk → (draw : ℕ) → ℤ
+leftAfter w draw = w .«frame_remain» -ℤ pos draw
+
+-- R 367–368: the lines of the pass, or at the end those that are left
+abbrev pub linesOf : Walk → (draw : ℕ) → ℕ
+linesOf w draw = cond (ltZ (leftAfter w draw) (pos 0)) (up (pos draw +ℤ leftAfter w draw)) draw
+
+-- R 369–370: the rows of the pass, fewer at the end
+abbrev pub rowsOf : Scaled → Walk → (draw : ℕ) → ℤ
+rowsOf z w draw =
+    cond (ltZ (leftAfter w draw) (pos 0)) (minZ (w .«slice_rows» +ℤ floorDiv (leftAfter w draw *ℤ pos (z .«scale_h»)) 1024 +ℤ pos 1) (pos (z .«image_rows»))) (w .«slice_rows»)
+
+-- R 388–404
+abbrev pub rectOf : Scaled → Walk → (lines : ℕ) → Entry
+rectOf z w lines =
+    Rect 0 (z .x) (w .«frame_y» * 4) (z .«x_end») ((w .«frame_y» + lines) * 4) (i16 (z .s)) (i16 (pos (w .t))) (i16 (pos (z .«scale_w»))) (i16 (pos (z .«scale_h»))) (rowOf z (w .source .remain))
+
+-- R 365, 405–409: the walk after a pass that draws
+abbrev pub afterDraw : Scaled → Walk → (draw lines : ℕ) → Source → Walk
+afterDraw z w draw lines source = nextPass z (w .«frame_y» + lines) (leftAfter w draw) (pos (modulo (w .count) 1024)) source
+
 -- R 364–405: a pass that draws `draw` lines or, at the end, the lines that are left
 unfoldable pub drawPass : Scaled → Walk → (draw : ℕ) → Out Walk
 drawPass z w draw =
-    let frame-remain = w .«frame_remain» -ℤ pos draw in
-    let over = ltZ frame-remain (pos 0) in
-    let lines = cond over (up (pos draw +ℤ frame-remain)) draw in
-    let cut = w .«slice_rows» +ℤ floorDiv (frame-remain *ℤ pos (z .«scale_h»)) 1024 +ℤ pos 1 in
-    let slice-rows = cond over (minZ cut (pos (z .«image_rows»))) (w .«slice_rows») in
-    let end-y = w .«frame_y» + lines in
-    load1cyc z (w .source) slice-rows >>= (λ source.
-    emit (Rect 0 (z .x) (w .«frame_y» * 4) (z .«x_end») (end-y * 4) (i16 (z .s)) (i16 (pos (w .t))) (i16 (pos (z .«scale_w»))) (i16 (pos (z .«scale_h»))) (rowOf z (w .source .remain)))
-    >> yield (nextPass z end-y frame-remain (pos (modulo (w .count) 1024)) source))
+    load1cyc z (w .source) (rowsOf z w draw) >>= (λ source. emit (rectOf z w (linesOf w draw)) >> yield (afterDraw z w draw (linesOf w draw) source))
 
 -- R 356–362: a pass without a line
 unfoldable pub idlePass : Scaled → Walk → Out Walk
 idlePass z w = advance z (w .source) (w .«slice_rows») >>= (λ source. yield (nextPass z (w .«frame_y») (w .«frame_remain») (w .count) source))
 
+-- R 354: the lines that a pass draws, 0 where the Rust's number is at most 0
+abbrev pub drawOf : Walk → ℕ
+drawOf w = up (floorDiv (w .count) 1024)
+
 -- R 354–355 `draw <= 0`
 unfoldable pub pass : Scaled → Walk → Out Walk
-pass z w = let draw = up (floorDiv (w .count) 1024) in elim (eqb draw 0) [ true ↦ idlePass z w | false ↦ drawPass z w draw ]
+pass z w = let draw = drawOf w in elim (eqb draw 0) [ true ↦ idlePass z w | false ↦ drawPass z w draw ]
 
 -- R 353 `while frame_remain > 0`
 unfoldable pub passes : ℕ → Scaled → Walk → Out (Unit {0})

@@ -1,0 +1,2 @@
+-- What the tables of capacities promise.
+pub mod Entry
