@@ -1,0 +1,107 @@
+-- What a scaled plan has still to come, at each place of a pass: the rest of `load_1cyc`, the rectangle, and the passes after it.
+-- Assumes nothing.
+use mathlib.Core.Path.{_≡_}
+use mathlib.Core.Bool.{true}
+use mathlib.Core.List.{List, [], _∷_}
+use Prim.Native.Nat.{ℕ, _+_, _*_, _%_, _^_}
+use lib.IntN.{ℤ, pos, negℤ, _+ℤ_, _-ℤ_, _*ℤ_}
+use Rattle.signed.specs.Diff.{up}
+use Rattle.signed.specs.Floor.{floorDiv, modulo}
+use Rattle.object.specs.declared.types.Verdict.{Verdict}
+use Rattle.object.specs.declared.types.Verdict.the-variants as verdict
+use Rattle.plan.specs.declared.types.Entry.{Entry}
+use Rattle.plan.specs.declared.types.Entry.the-variants.{Tile, Size}
+use Rattle.plan.specs.declared.types.Scaled.{Scaled}
+use Rattle.plan.specs.declared.types.Source.{Source}
+use Rattle.plan.specs.declared.types.Walk.{Walk}
+use Rattle.plan.specs.Out.{Out, Plan, more, _>>=_, _>>_, yield, emit, refuse, planOut}
+use Rattle.plan.specs.Load.{loadTile, sourceAddress}
+use Rattle.plan.specs.Next.{ended}
+use Rattle.plan.specs.Scaled.{tile7, loadPart, loadRows, load1cycTile, splitRow, upToEnd, advance, load1cyc, drawOf, rectOf, afterDraw, passes}
+use Rattle.passes.specs.declared.types.Sum.{Sum}
+use Rattle.passes.specs.declared.types.Sum.the-variants as sum
+use Rattle.passes.specs.declared.types.Moved.{Moved}
+use Rattle.passes.specs.declared.types.Moved.the-variants as moved
+use Rattle.passes.specs.declared.types.Piece.{Piece}
+use Rattle.passes.specs.declared.types.Piece.the-variants as piece
+use Rattle.passes.specs.declared.types.Stage.{Stage}
+use Rattle.passes.specs.declared.types.Stage.the-variants as stage
+use Rattle.passes.specs.declared.types.Place.{Place}
+use Rattle.passes.specs.declared.types.Reached.{Reached}
+use Rattle.passes.specs.declared.types.Reached.the-variants as reached
+
+-- an address sum as a part of a plan
+abbrev pub sumOut : Sum → Out ℕ
+sumOut (sum.At p) = yield p
+sumOut sum.Overflow = refuse verdict.Address
+
+abbrev pub movedOut : Moved → Out Source
+movedOut (moved.To s) = yield s
+movedOut moved.Overflow = refuse verdict.Address
+
+-- the passes from a walk, with fuel for every line left
+unfoldable pub passesOf : Scaled → Walk → Out (Unit {0})
+passesOf z w = passes (65 * up (w .«frame_remain»)) z w
+
+-- R 175 `loadable`
+abbrev pub loadableOf : Scaled → Source → ℤ
+loadableOf z src = src .remain -ℤ pos (z .split)
+
+-- R 199–207: the rows, destination and width of the two parts of the image's last row
+abbrev pub splitRows : Scaled → Source → ℤ
+splitRows z src = pos (modulo (loadableOf z src) 2 + 1)
+
+abbrev pub splitFrom : Scaled → Source → ℤ
+splitFrom z src = (loadableOf z src -ℤ pos (modulo (loadableOf z src) 2)) *ℤ pos (z .line)
+
+abbrev pub splitWidth : Scaled → ℤ
+splitWidth z = floorDiv (pos (z .stride) -ℤ pos (z .«x_offset»)) 8
+
+-- R 212–231: the rows before the image's last, and the move
+unfoldable pub restOut : Scaled → Source → (rows : ℤ) → Out Source
+restOut z src rows = upToEnd z (src .pointer) (loadableOf z src) >> advance z src rows
+
+-- R 176–180: the move where no row wraps
+unfoldable pub wholeOut : Scaled → Source → (rows : ℤ) → Out Source
+wholeOut z src rows = sourceAddress (src .pointer) (pos (z .stride) *ℤ rows) >>= (λ q. yield (record { pointer = q; remain = src .remain -ℤ rows }))
+
+-- what of `load_1cyc` comes after a part; `spare` is the pointer of the last row's first part
+unfoldable pub pieceOut : Piece → Scaled → Source → (rows : ℤ) → (spare : ℕ) → Out Source
+pieceOut piece.Whole z src rows spare = wholeOut z src rows
+pieceOut piece.Top z src rows spare = splitRow z (src .pointer) (loadableOf z src) >> restOut z src rows
+pieceOut piece.SplitB z src rows spare = load1cycTile z spare (splitRows z src) (splitFrom z src) (splitWidth z) true >> restOut z src rows
+pieceOut piece.SplitA z src rows spare = restOut z src rows
+pieceOut piece.Rest z src rows spare = advance z src rows
+
+-- the rectangle, and the passes after it
+unfoldable pub drawn : Scaled → Walk → (lines : ℕ) → Source → Out (Unit {0})
+drawn z w lines source = emit (rectOf z w lines) >> passesOf z (afterDraw z w (drawOf w) lines source)
+
+-- a pass whose load has this to come
+abbrev pub passOut : Scaled → Walk → (lines : ℕ) → Out Source → Plan
+passOut z w lines o = planOut (o >>= (λ source. drawn z w lines source))
+
+-- R 336–351: tile 0, for the whole plan
+abbrev pub tile0 : Scaled → Entry
+tile0 z = Tile 0 (z .fmt) (z .siz) (z .line % 2 ^ 16) 0 (z .palette) 1 1 15 15
+
+-- the part that is given
+abbrev pub partOut : Place → Out (Unit {0})
+partOut p = loadPart (p .scaled) (p .part .pointer) (p .part .rows) (p .part .width)
+
+abbrev pub afterPart : Piece → Place → Out Source
+afterPart k p = pieceOut k (p .scaled) (p .walk .source) (p .rows) (p .spare)
+
+unfoldable pub comingScaled : Stage → Place → Plan
+comingScaled stage.First p = planOut (emit (tile7 (p .scaled) (pos 0)) >> (emit (tile0 (p .scaled)) >> (emit (Size 0 0 0 0 0) >> passesOf (p .scaled) (p .walk))))
+comingScaled stage.Second p = planOut (emit (tile0 (p .scaled)) >> (emit (Size 0 0 0 0 0) >> passesOf (p .scaled) (p .walk)))
+comingScaled stage.Third p = planOut (emit (Size 0 0 0 0 0) >> passesOf (p .scaled) (p .walk))
+comingScaled (stage.Tile k) p = passOut (p .scaled) (p .walk) (p .lines) (emit (tile7 (p .scaled) (p .part .destination)) >> (partOut p >> afterPart k p))
+comingScaled (stage.Image k) p = passOut (p .scaled) (p .walk) (p .lines) (partOut p >> afterPart k p)
+comingScaled (stage.Load k) p = passOut (p .scaled) (p .walk) (p .lines) (loadRows (p .scaled) (p .part .pointer) (p .part .rows) (p .part .width) >> afterPart k p)
+comingScaled stage.Last p = passOut (p .scaled) (p .walk) (p .lines) (emit (tile7 (p .scaled) (pos 0)) >> advance (p .scaled) (p .walk .source) (p .rows))
+comingScaled stage.Rect p = planOut (drawn (p .scaled) (p .walk) (p .lines) (p .next))
+
+abbrev pub comingReached : Reached → Plan
+comingReached (reached.At s p) = comingScaled s p
+comingReached (reached.Ended v) = ended [] v

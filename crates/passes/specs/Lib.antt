@@ -1,0 +1,6 @@
+pub mod Coming
+pub mod Comes
+pub mod Rounds
+pub mod Sound
+pub mod Sums
+pub mod Loads

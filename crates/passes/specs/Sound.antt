@@ -1,0 +1,108 @@
+-- The ranges that a scaled walk keeps, so that no sum overflows, and how many entries are still to come at the most.
+-- Assumes nothing.
+use mathlib.Core.Path.{_≡_}
+use Prim.Native.Nat.{ℕ, _+_, _-_, _*_, _/_, _^_, _≤_, _<_}
+use lib.IntN.{ℤ, pos, negℤ}
+use lib.Signed.{_≤ℤ_}
+use Rattle.signed.specs.Diff.{up, dn}
+use Rattle.object.specs.Range.{Within}
+use Rattle.plan.specs.declared.types.Scaled.{Scaled}
+use Rattle.plan.specs.declared.types.Source.{Source}
+use Rattle.plan.specs.declared.types.Walk.{Walk}
+use Rattle.plan.specs.Out.{Plan}
+use Rattle.plan.specs.Sound.{SoundScaled}
+use Rattle.plan.specs.Scaled.{drawOf, leftAfter, linesOf, rowsOf, afterDraw}
+use Rattle.passes.specs.declared.types.Part.{Part}
+use Rattle.passes.specs.declared.types.Piece.{Piece}
+use Rattle.passes.specs.declared.types.Piece.the-variants as piece
+use Rattle.passes.specs.declared.types.Stage.{Stage}
+use Rattle.passes.specs.declared.types.Stage.the-variants as stage
+use Rattle.passes.specs.declared.types.Place.{Place}
+use Rattle.passes.specs.declared.types.Reached.{Reached}
+use Rattle.passes.specs.declared.types.Reached.the-variants as reached
+use Rattle.passes.specs.Coming.{comingReached}
+
+-- a walk before a pass. Each pass lowers 64 × lines left − count / 16, and `remain` by 512 rows at the most: `low` ties the two together
+pub record SoundWalk (w : Walk) : Type 0 where
+  pub frame-y : w .«frame_y» + up (w .«frame_remain») ≤ 4096
+  pub lines : up (w .«frame_remain») ≤ 1023
+  pub count : pos 0 ≤ℤ w .count
+  pub count′ : w .count ≤ℤ pos (2 ^ 31)
+  pub slice-rows : negℤ (pos (2 ^ 27)) ≤ℤ w .«slice_rows»
+  pub slice-rows′ : w .«slice_rows» ≤ℤ pos 512
+  pub t : w .t ≤ 31
+  pub low : dn (w .source .remain) + 1280000 * up (w .«frame_remain») ≤ 2 ^ 40 + 20000 * (up (w .count) / 16)
+  pub high : up (w .source .remain) + dn (w .«slice_rows») ≤ 2 ^ 28
+
+-- a pass that draws: its rows and lines are those of the walk
+pub record SoundPass (p : Place) : Type 0 where
+  pub scaled : SoundScaled (p .scaled)
+  pub walk : SoundWalk (p .walk)
+  pub draws : 1 ≤ drawOf (p .walk)
+  pub lines : p .lines ≡ linesOf (p .walk) (drawOf (p .walk))
+  pub left : 1 ≤ up (p .walk .«frame_remain»)
+  pub rows : negℤ (pos (2 ^ 28)) ≤ℤ p .rows
+  pub rows′ : p .rows ≤ℤ pos 512
+  pub whole : pos 1 ≤ℤ leftAfter (p .walk) (drawOf (p .walk)) → p .rows ≡ p .walk .«slice_rows»
+
+-- the part that is given
+pub record SoundPart (q : Part) : Type 0 where
+  pub rows : Within 40 (q .rows)
+  pub width : Within 40 (q .width)
+
+pub record SoundPiece (p : Place) : Type 0 where
+  pub pass : SoundPass p
+  pub part : SoundPart (p .part)
+
+-- before the rectangle: where another pass follows, its walk is sound
+pub record SoundRect (p : Place) : Type 0 where
+  pub pass : SoundPass p
+  pub next : pos 1 ≤ℤ leftAfter (p .walk) (drawOf (p .walk)) → SoundWalk (afterDraw (p .scaled) (p .walk) (drawOf (p .walk)) (p .lines) (p .next))
+
+-- before the first pass
+pub record SoundStart (p : Place) : Type 0 where
+  pub scaled : SoundScaled (p .scaled)
+  pub walk : SoundWalk (p .walk)
+
+abbrev pub soundAt : Stage → Place → Type 0
+soundAt stage.First p = SoundStart p
+soundAt stage.Second p = SoundStart p
+soundAt stage.Third p = SoundStart p
+soundAt (stage.Tile k) p = SoundPiece p
+soundAt (stage.Image k) p = SoundPiece p
+soundAt (stage.Load k) p = SoundPiece p
+soundAt stage.Last p = SoundPass p
+soundAt stage.Rect p = SoundRect p
+
+abbrev pub soundReached : Reached → Type 0
+soundReached (reached.At s p) = soundAt s p
+soundReached (reached.Ended v) = Unit {0}
+
+-- the entries that come after a part, its pass's rectangle included, at the most
+abbrev pub afterPiece : Piece → ℕ
+afterPiece piece.Whole = 1
+afterPiece piece.Top = 10
+afterPiece piece.SplitB = 7
+afterPiece piece.SplitA = 4
+afterPiece piece.Rest = 1
+
+-- the entries that are still to come, at the most: 14 for each line that is left, and what the present pass has left
+abbrev pub leftAt : Stage → Place → ℕ
+leftAt stage.First p = 3 + 14 * up (p .walk .«frame_remain»)
+leftAt stage.Second p = 2 + 14 * up (p .walk .«frame_remain»)
+leftAt stage.Third p = 1 + 14 * up (p .walk .«frame_remain»)
+leftAt (stage.Tile k) p = 3 + afterPiece k + 14 * (up (p .walk .«frame_remain») - 1)
+leftAt (stage.Image k) p = 2 + afterPiece k + 14 * (up (p .walk .«frame_remain») - 1)
+leftAt (stage.Load k) p = 1 + afterPiece k + 14 * (up (p .walk .«frame_remain») - 1)
+leftAt stage.Last p = 2 + 14 * (up (p .walk .«frame_remain») - 1)
+leftAt stage.Rect p = 1 + 14 * (up (p .walk .«frame_remain») - 1)
+
+abbrev pub leftReached : Reached → ℕ
+leftReached (reached.At s p) = leftAt s p
+leftReached (reached.Ended v) = 0
+
+-- r has just the plan to come, is sound, and gives at most n entries
+pub record Reaches (plan : Plan) (n : ℕ) (r : Reached) : Type 0 where
+  pub is : comingReached r ≡ plan
+  pub sound : soundReached r
+  pub left : leftReached r ≤ n

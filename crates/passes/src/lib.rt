@@ -1,0 +1,12 @@
+// The walk of a scaled plan: passes, the parts of a load, and one step.
+mod rows;
+mod sums;
+mod types;
+pub use types::Moved;
+pub use types::Part;
+pub use types::Piece;
+pub use types::Place;
+pub use types::Reached;
+pub use types::ScaledNext;
+pub use types::Stage;
+pub use types::Sum;

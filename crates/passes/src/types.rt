@@ -1,0 +1,69 @@
+// Where a scaled plan stands, and what one step of it answers.
+use object::Verdict;
+use plan::Entry;
+use plan::Scaled;
+use plan::Source;
+use plan::Walk;
+
+// An address sum.
+pub enum Sum {
+    At(u64),
+    Overflow,
+}
+
+// Where the rows after a pass come from.
+pub enum Moved {
+    To(Source),
+    Overflow,
+}
+
+// One part of a pass's load: `load_1cyc_tile`'s numbers.
+pub struct Part {
+    pub pointer: u64,
+    pub rows: i64,
+    pub destination: i64,
+    pub width: i64,
+}
+
+// Which part of a pass's load is given: the whole, where no row wraps; else the rows from the image's top, the two parts of its last row, and the rows before that.
+pub enum Piece {
+    Whole,
+    Top,
+    SplitB,
+    SplitA,
+    Rest,
+}
+
+// Which entry comes next.
+pub enum Stage {
+    First,
+    Second,
+    Third,
+    Tile(Piece),
+    Image(Piece),
+    Load(Piece),
+    Last,
+    Rect,
+}
+
+// A pass under way: the walk before it, its rows and lines, the part that is given, the pointer of the last row's first part, and where the next pass starts.
+pub struct Place {
+    pub scaled: Scaled,
+    pub walk: Walk,
+    pub rows: i64,
+    pub lines: u64,
+    pub part: Part,
+    pub spare: u64,
+    pub next: Source,
+}
+
+pub enum Reached {
+    At(Stage, Place),
+    Ended(Verdict),
+}
+
+// What one step answers: an entry and where the plan stands then; or a refused load, with the size that it has set.
+pub enum ScaledNext {
+    Entry(Entry, Reached),
+    Refused(Entry),
+}

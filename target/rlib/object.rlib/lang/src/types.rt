@@ -1,7 +1,0 @@
-pub struct Quarters ( pub i64 ) ;
-pub struct ThirtySeconds ( pub i64 ) ;
-pub struct Scale ( pub u64 ) ;
-pub struct ObjBg { pub image_x : ThirtySeconds , pub image_w : Quarters , pub frame_x : Quarters , pub frame_w : Quarters , pub image_y : ThirtySeconds , pub image_h : Quarters , pub frame_y : Quarters , pub frame_h : Quarters , pub image_ptr : u64 , pub image_load : u16 , pub image_fmt : u8 , pub image_siz : u8 , pub image_pal : u16 , pub image_flip : u16 , pub tmem_w : u16 , pub tmem_h : u16 , pub tmem_load_sh : u16 , pub tmem_load_th : u16 , pub tmem_size_w : u16 , pub tmem_size : u16 , pub scale_w : Scale , pub scale_h : Scale , pub image_y_orig : ThirtySeconds , }
-pub struct Scissor { pub ulx : i32 , pub uly : i32 , pub lrx : i32 , pub lry : i32 , }
-pub enum Verdict { Finished , Opcode , Short , Scissor , Object , Copy , Slices , TooBig , Piece , Address , Full , }
-pub enum Checked { Copy ( ObjBg ) , Scaled ( ObjBg ) , Refused ( Verdict ) , }

@@ -1,6 +1,0 @@
--- The integers of the specifications: differences of naturals, division that rounds down, words in two's complement, masks and casts.
-pub mod Diff
-pub mod Floor
-pub mod Word
-pub mod Mask
-pub mod Cast
