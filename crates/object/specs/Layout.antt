@@ -2,13 +2,17 @@
 -- Assumes nothing.
 use mathlib.Core.Bool.{Bool, true, false, cond}
 use mathlib.Core.List.{List}
-use Prim.Native.Nat.{ℕ, zero, suc, _+_, _*_, max}
-use lib.ListN.{getD}
+use mathlib.Core.Path.{_≡_}
+use Prim.Native.Nat.{ℕ, zero, suc, _+_, _*_, _^_, _≤_, _<_, max}
+use lib.Dec.{ltb}
+use lib.ListN.{length, getD}
 use lib.IntN.{ℤ, pos}
 use mir.Syntax.{w16, w32}
 use mir.Val.{toZ}
 use Rattle.signed.specs.Diff.{up}
 use Rattle.object.specs.declared.types.ObjBg.{ObjBg}
+use Rattle.object.specs.declared.decode.Decoded.{Decoded}
+use Rattle.object.specs.declared.decode.Decoded.the-variants as decoded
 
 -- D "Decimal byte offsets", in the table's order
 pub data Field : Type 0 where
@@ -86,6 +90,20 @@ unfoldable pub read : List ℕ → ℕ → ℕ → ℕ
 read bs at zero = 0
 read bs at (suc n) = read bs at n * 256 + getD bs (at + n) 0
 
+-- the n bytes from an offset are there, at most a word's
+pub record Held (bs : List ℕ) (at n : ℕ) : Type 0 where
+  pub few : n ≤ 8
+  pub there : at + n ≤ length bs
+
+-- what a read gives: the number, and its bound
+pub record ReadIs (bs : List ℕ) (at n r : ℕ) : Type 0 where
+  pub is : r ≡ read bs at n
+  pub below : r < 256 ^ n
+
+-- each element of a slice of bytes is a byte
+abbrev pub Bytes : List ℕ → Type 0
+Bytes bs = (k : ℕ) → getD bs k 0 < 256
+
 abbrev pub withSign : Sign → ℕ → ℤ
 withSign unsigned n = pos n
 withSign signed16 n = toZ w16 n
@@ -128,3 +146,11 @@ decode p copy bs =
       «scale_h» = record { 0 = cond copy 0 (max 1 (numberOf p bs scale-h)) };
       «image_y_orig» = record { 0 = cond copy (pos 0) (valueOf p bs image-y-orig) };
     }
+
+-- the object, or that it is short
+abbrev pub decodedBy : Bool → ObjBg → Decoded
+decodedBy true bg = decoded.Short
+decodedBy false bg = decoded.Object bg
+
+unfoldable pub decodedOf : ℕ → (copy : Bool) → List ℕ → Decoded
+decodedOf p copy bs = decodedBy (ltb (length bs) (sizeOf p copy)) (decode p copy bs)

@@ -34,3 +34,23 @@ sampledBy q scale = q * scale / 128
 -- R 239–240 "<< 10) / scale": the frame width that an image width gives at a scale
 abbrev pub shownAt : ℕ → ℕ → ℕ
 shownAt q scale = q * 1024 / scale
+
+-- numbers as measures
+abbrev pub inQuarters : ℤ → Quarters
+inQuarters z = record { 0 = z }
+
+abbrev pub inThirtySeconds : ℤ → ThirtySeconds
+inThirtySeconds z = record { 0 = z }
+
+abbrev pub inScale : ℕ → Scale
+inScale n = record { 0 = n }
+
+-- the conversions, from measure to measure
+abbrev pub widthInImage : Quarters → ThirtySeconds
+widthInImage q = inThirtySeconds (pos (inImage (quarters q)))
+
+abbrev pub widthSampled : Quarters → Scale → ThirtySeconds
+widthSampled q scale = inThirtySeconds (pos (sampledBy (quarters q) (scale .0)))
+
+abbrev pub widthShown : Quarters → Scale → Quarters
+widthShown q scale = inQuarters (pos (shownAt (quarters q) (scale .0)))

@@ -1,11 +1,16 @@
 -- What is known of an object that was decoded, and of a request that passed the checks.
 -- Assumes nothing.
+use mathlib.Core.List.{List}
+use mathlib.Core.Path.{_≡_}
 use Prim.Native.Nat.{ℕ, _≤_, _-_, _^_}
 use lib.IntN.{ℤ, pos, negℤ}
 use lib.Signed.{_≤ℤ_}
 use Rattle.object.specs.declared.types.ObjBg.{ObjBg}
 use Rattle.object.specs.declared.types.Scissor.{Scissor}
+use Rattle.object.specs.declared.types.Checked.{Checked}
+use Rattle.object.specs.declared.types.Checked.the-variants as checked
 use Rattle.object.specs.Measure.{quarters}
+use Rattle.object.specs.Check.{checkedOf}
 
 -- z lies in 0..2^k − 1, and in −2^k..2^k − 1
 pub record Below (k : ℕ) (z : ℤ) : Type 0 where
@@ -61,3 +66,14 @@ pub record PassedScaled (bg : ObjBg) (s : Scissor) : Type 0 where
   pub passed : Passed bg s
   pub scale-w : 1 ≤ bg .«scale_w» .0
   pub scale-h : 1 ≤ bg .«scale_h» .0
+
+-- by what the checks gave
+abbrev pub knownOf : Scissor → Checked → Type 0
+knownOf s (checked.Copy bg) = PassedCopy bg s
+knownOf s (checked.Scaled bg) = PassedScaled bg s
+knownOf s (checked.Refused v) = Unit {0}
+
+-- pointers are of 4 bytes
+pub record CheckedIs (bs : List ℕ) (opcode : ℕ) (s : Scissor) (r : Checked) : Type 0 where
+  pub is : r ≡ checkedOf 4 bs opcode s
+  pub known : knownOf s r

@@ -1,7 +1,7 @@
 -- What a scaled plan has still to come, at each place of a pass: the rest of `load_1cyc`, the rectangle, and the passes after it.
 -- Assumes nothing.
 use mathlib.Core.Path.{_≡_}
-use mathlib.Core.Bool.{true}
+use mathlib.Core.Bool.{true, false}
 use mathlib.Core.List.{List, [], _∷_}
 use Prim.Native.Nat.{ℕ, _+_, _*_, _%_, _^_}
 use lib.IntN.{ℤ, pos, negℤ, _+ℤ_, _-ℤ_, _*ℤ_}
@@ -17,7 +17,7 @@ use Rattle.plan.specs.declared.types.Walk.{Walk}
 use Rattle.plan.specs.Out.{Out, Plan, more, _>>=_, _>>_, yield, emit, refuse, planOut}
 use Rattle.plan.specs.Load.{loadTile, sourceAddress}
 use Rattle.plan.specs.Next.{ended}
-use Rattle.plan.specs.Scaled.{tile7, loadPart, loadRows, load1cycTile, splitRow, upToEnd, advance, load1cyc, drawOf, rectOf, afterDraw, passes}
+use Rattle.plan.specs.Scaled.{tile7, loadPart, loadRows, load1cycTile, fromTop, splitRow, upToEnd, advance, load1cyc, drawOf, rectOf, afterDraw, passes}
 use Rattle.passes.specs.declared.types.Sum.{Sum}
 use Rattle.passes.specs.declared.types.Sum.the-variants as sum
 use Rattle.passes.specs.declared.types.Moved.{Moved}
@@ -92,14 +92,37 @@ partOut p = loadPart (p .scaled) (p .part .pointer) (p .part .rows) (p .part .wi
 abbrev pub afterPart : Piece → Place → Out Source
 afterPart k p = pieceOut k (p .scaled) (p .walk .source) (p .rows) (p .spare)
 
+-- a pass at a place, whose load has this to come
+abbrev pub passFrom : Place → Out Source → Plan
+passFrom p o = passOut (p .scaled) (p .walk) (p .lines) o
+
+-- a part with its tile, and what comes after it
+abbrev pub partThen : Piece → Place → (pointer : ℕ) → (rows destination width : ℤ) → Plan
+partThen k p pointer rows destination width = passFrom p (load1cycTile (p .scaled) pointer rows destination width true >> afterPart k p)
+
+-- R 176: the whole load, over the tile that stands
+abbrev pub wholeThen : Place → (rows width : ℤ) → Plan
+wholeThen p rows width = passFrom p (load1cycTile (p .scaled) (p .walk .source .pointer) rows (pos 0) width false >> afterPart piece.Whole p)
+
+-- R 184–195: the rows from the top, and what comes after them
+abbrev pub topThen : Place → (load-rows : ℤ) → Plan
+topThen p load-rows = passFrom p (fromTop (p .scaled) (p .walk .source .remain) load-rows >> afterPart piece.Top p)
+
+-- R 206–210: the two parts of the image's last row, at these pointers, and what comes after them
+abbrev pub partsFrom : Place → (p1b p1a : ℕ) → Plan
+partsFrom p p1b p1a =
+    passFrom p
+    (load1cycTile (p .scaled) p1b (splitRows (p .scaled) (p .walk .source)) (splitFrom (p .scaled) (p .walk .source) +ℤ splitWidth (p .scaled)) (pos (p .scaled .line) -ℤ splitWidth (p .scaled)) true
+    >> pieceOut piece.SplitB (p .scaled) (p .walk .source) (p .rows) p1a)
+
 unfoldable pub comingScaled : Stage → Place → Plan
 comingScaled stage.First p = planOut (emit (tile7 (p .scaled) (pos 0)) >> (emit (tile0 (p .scaled)) >> (emit (Size 0 0 0 0 0) >> passesOf (p .scaled) (p .walk))))
 comingScaled stage.Second p = planOut (emit (tile0 (p .scaled)) >> (emit (Size 0 0 0 0 0) >> passesOf (p .scaled) (p .walk)))
 comingScaled stage.Third p = planOut (emit (Size 0 0 0 0 0) >> passesOf (p .scaled) (p .walk))
-comingScaled (stage.Tile k) p = passOut (p .scaled) (p .walk) (p .lines) (emit (tile7 (p .scaled) (p .part .destination)) >> (partOut p >> afterPart k p))
-comingScaled (stage.Image k) p = passOut (p .scaled) (p .walk) (p .lines) (partOut p >> afterPart k p)
-comingScaled (stage.Load k) p = passOut (p .scaled) (p .walk) (p .lines) (loadRows (p .scaled) (p .part .pointer) (p .part .rows) (p .part .width) >> afterPart k p)
-comingScaled stage.Last p = passOut (p .scaled) (p .walk) (p .lines) (emit (tile7 (p .scaled) (pos 0)) >> advance (p .scaled) (p .walk .source) (p .rows))
+comingScaled (stage.Tile k) p = passFrom p (emit (tile7 (p .scaled) (p .part .destination)) >> (partOut p >> afterPart k p))
+comingScaled (stage.Image k) p = passFrom p (partOut p >> afterPart k p)
+comingScaled (stage.Load k) p = passFrom p (loadRows (p .scaled) (p .part .pointer) (p .part .rows) (p .part .width) >> afterPart k p)
+comingScaled stage.Last p = passFrom p (emit (tile7 (p .scaled) (pos 0)) >> advance (p .scaled) (p .walk .source) (p .rows))
 comingScaled stage.Rect p = planOut (drawn (p .scaled) (p .walk) (p .lines) (p .next))
 
 abbrev pub comingReached : Reached → Plan

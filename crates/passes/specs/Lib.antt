@@ -4,3 +4,5 @@ pub mod Rounds
 pub mod Sound
 pub mod Sums
 pub mod Loads
+pub mod Kept
+pub mod Enter

@@ -125,3 +125,14 @@ module _ (z : Scaled) (src : Source) (rows remain : ℤ) (s : Sum) (e : remain �
     where
       turned : (a b : ℤ) → b -ℤ a ≡ negℤ (a -ℤ b)
       turned a b = simp zdiff (omega zarith)
+
+-- R 126: the tests of a part, one after the other
+module _ (rows destination width : ℤ) where
+  pub bad-rows : leZ rows (pos 0) ≡ true → partBad rows destination width ≡ true
+  bad-rows t = rw t
+
+  pub bad-width : leZ rows (pos 0) ≡ false → leZ width (pos 0) ≡ true → partBad rows destination width ≡ true
+  bad-width t u = rw (t, u)
+
+  pub bad-place : leZ rows (pos 0) ≡ false → leZ width (pos 0) ≡ false → partBad rows destination width ≡ ltZ destination (pos 0)
+  bad-place t u = rw (t, u)

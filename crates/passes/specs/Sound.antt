@@ -5,6 +5,7 @@ use Prim.Native.Nat.{ℕ, _+_, _-_, _*_, _/_, _^_, _≤_, _<_}
 use lib.IntN.{ℤ, pos, negℤ}
 use lib.Signed.{_≤ℤ_}
 use Rattle.signed.specs.Diff.{up, dn}
+use Rattle.signed.specs.Floor.{modulo}
 use Rattle.object.specs.Range.{Within}
 use Rattle.plan.specs.declared.types.Scaled.{Scaled}
 use Rattle.plan.specs.declared.types.Source.{Source}
@@ -20,7 +21,8 @@ use Rattle.passes.specs.declared.types.Stage.the-variants as stage
 use Rattle.passes.specs.declared.types.Place.{Place}
 use Rattle.passes.specs.declared.types.Reached.{Reached}
 use Rattle.passes.specs.declared.types.Reached.the-variants as reached
-use Rattle.passes.specs.Coming.{comingReached}
+use Rattle.passes.specs.declared.types.Split.{Split}
+use Rattle.passes.specs.Coming.{loadableOf, splitFrom, splitWidth, comingReached}
 
 -- a walk before a pass. Each pass lowers 64 × lines left − count / 16, and `remain` by 512 rows at the most: `low` ties the two together
 pub record SoundWalk (w : Walk) : Type 0 where
@@ -47,8 +49,17 @@ pub record SoundPass (p : Place) : Type 0 where
 
 -- the part that is given
 pub record SoundPart (q : Part) : Type 0 where
-  pub rows : Within 40 (q .rows)
-  pub width : Within 40 (q .width)
+  pub rows : Within 47 (q .rows)
+  pub width : Within 47 (q .width)
+
+-- the numbers of the image's last row
+pub record SplitIs (z : Scaled) (src : Source) (s : Split) : Type 0 where
+  pub odd : s .odd ≡ modulo (loadableOf z src) 2
+  pub odd′ : s .odd ≤ 1
+  pub from : s .from ≡ splitFrom z src
+  pub from′ : Within 60 (s .from)
+  pub width : s .width ≡ splitWidth z
+  pub width′ : Within 20 (s .width)
 
 pub record SoundPiece (p : Place) : Type 0 where
   pub pass : SoundPass p
@@ -86,16 +97,20 @@ afterPiece piece.SplitB = 7
 afterPiece piece.SplitA = 4
 afterPiece piece.Rest = 1
 
+-- the entries of later passes, at the most
+abbrev pub leftPass : Place → ℕ
+leftPass p = 14 * (up (p .walk .«frame_remain») - 1)
+
 -- the entries that are still to come, at the most: 14 for each line that is left, and what the present pass has left
 abbrev pub leftAt : Stage → Place → ℕ
 leftAt stage.First p = 3 + 14 * up (p .walk .«frame_remain»)
 leftAt stage.Second p = 2 + 14 * up (p .walk .«frame_remain»)
 leftAt stage.Third p = 1 + 14 * up (p .walk .«frame_remain»)
-leftAt (stage.Tile k) p = 3 + afterPiece k + 14 * (up (p .walk .«frame_remain») - 1)
-leftAt (stage.Image k) p = 2 + afterPiece k + 14 * (up (p .walk .«frame_remain») - 1)
-leftAt (stage.Load k) p = 1 + afterPiece k + 14 * (up (p .walk .«frame_remain») - 1)
-leftAt stage.Last p = 2 + 14 * (up (p .walk .«frame_remain») - 1)
-leftAt stage.Rect p = 1 + 14 * (up (p .walk .«frame_remain») - 1)
+leftAt (stage.Tile k) p = 3 + afterPiece k + leftPass p
+leftAt (stage.Image k) p = 2 + afterPiece k + leftPass p
+leftAt (stage.Load k) p = 1 + afterPiece k + leftPass p
+leftAt stage.Last p = 2 + leftPass p
+leftAt stage.Rect p = 1 + leftPass p
 
 abbrev pub leftReached : Reached → ℕ
 leftReached (reached.At s p) = leftAt s p

@@ -1,4 +1,5 @@
 // The walk of a scaled plan: passes, the parts of a load, and one step.
+mod load;
 mod rows;
 mod sums;
 mod types;

@@ -32,3 +32,10 @@ pub fn times(a: i64, n: u64) -> i64
 {
     a * n as i64
 }
+
+pub fn sum(a: i64, b: i64) -> i64
+    requires { ⌜ (Within 61 a) × Within 61 b ⌝ }
+    ensures { λ r. ⌜ r ≡ a +ℤ b ⌝ }
+{
+    a + b
+}

@@ -25,6 +25,13 @@ pub struct Part {
     pub width: i64,
 }
 
+// The two parts of the image's last row: whether it is an odd one, where in texture memory the first goes, and its width.
+pub struct Split {
+    pub odd: u64,
+    pub from: i64,
+    pub width: i64,
+}
+
 // Which part of a pass's load is given: the whole, where no row wraps; else the rows from the image's top, the two parts of its last row, and the rows before that.
 pub enum Piece {
     Whole,

@@ -1,0 +1,45 @@
+-- `copy::strip::strip_of`: the calls are the definition's steps, and its law has the bounds. Assumes nothing.
+use Rattle.plan.specs.Copy.{stripOf}
+use Rattle.copy.specs.Strip.{strip-is}
+use borrow.Author.Needs.{needs}
+use Rattle.copy.proofs.strip.strip_of.Statement.{statement}
+use Rattle.copy.proofs.strip.strip_of.Tie as tie
+
+column-at-requires : tie.Need-column-at-requires
+column-at-requires c κs = search needs
+
+width-at-requires : tie.Need-width-at-requires
+width-at-requires c κs = search needs
+
+source-left-requires : tie.Need-source-left-requires
+source-left-requires c κs = search needs
+
+aligned-requires : tie.Need-aligned-requires
+aligned-requires c κs = search needs
+
+sub-offset : tie.Need-sub-offset
+sub-offset c = search needs
+
+add-load-width : tie.Need-add-load-width
+add-load-width c = search needs
+
+line-of-requires : tie.Need-line-of-requires
+line-of-requires c κs = search needs
+
+returns : tie.Need-returns
+unfolding stripOf
+returns c = let a = c .before .before .before .before .before in
+    strip-is (a .args .c) (a .args .x) (a .pre .0) (a .pre .1) (rw (c .line-of .ensures, c .before .aligned .ensures .is, c .before .before .source-left .ensures .is, c .before .before .before .width-at .ensures, c .before .before .before .before .column-at .ensures .is))
+
+pub strip-of-spec : {M : Type 1} → statement M
+strip-of-spec =
+    tie.close
+    (tie.spec
+    column-at-requires
+    width-at-requires
+    source-left-requires
+    aligned-requires
+    sub-offset
+    add-load-width
+    line-of-requires
+    returns)

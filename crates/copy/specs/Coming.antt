@@ -1,0 +1,160 @@
+-- What a copy walk still has to give, from each stage, as the tail of the plan's list; and each step gives the first of it.
+-- Assumes nothing.
+use mathlib.Core.Path.{_≡_, refl, sym, ap, _∙_}
+use mathlib.Core.Bool.{Bool, true, false}
+use mathlib.Core.List.{List, [], _∷_, _++_, append-assoc, append-nil}
+use Prim.Native.Nat.{ℕ, suc, _+_, _*_, _<_}
+use native.Mathlib.Omega.{arith}
+use borrow.Author.Tests.{ltb-true, lt-ltb}
+use lib.Dec.{ltb}
+use Rattle.object.specs.declared.types.Verdict.the-variants as verdict
+use Rattle.tile.specs.declared.load.LoadRequest.{LoadRequest}
+use Rattle.tile.specs.declared.load.LoadRequest.the-variants as request
+use Rattle.plan.specs.declared.types.Copy.{Copy}
+use Rattle.plan.specs.declared.types.Entry.{Entry}
+use Rattle.plan.specs.Out.{Out, more, _>>=_, _>>_, yield, emit, refuse, Plan, planOut}
+use Rattle.plan.specs.Out.Out.{go, stop}
+use Rattle.plan.specs.Load.{loadOut, loadTile}
+use Rattle.plan.specs.Copy.{field, stripOf, stripEntries, strip, columns, stripRow, stripHeight, rows, copyPlan}
+use Rattle.plan.specs.Laws.{more-nil, more-more, more-bind, columns-on, columns-end, columns-fuel, rows-on, rows-end, rows-fuel}
+use Rattle.plan.specs.Next.{Next, cons, ended, Follows}
+use Rattle.plan.specs.Sound.{SoundCopy}
+use Rattle.copy.specs.declared.types.Area.{Area}
+use Rattle.copy.specs.declared.types.Stage.{Stage}
+use Rattle.copy.specs.declared.types.Stage.the-variants as stage
+use Rattle.copy.specs.declared.types.Place.{Place}
+use Rattle.copy.specs.Walk.{placeAt, rowAt, SoundPlace, imageEntry, tileEntry, tile0Entry, sizeEntry, areaOf, requestAt, rectEntry, tile7Next, loadNext, rectNext, copyNextOf, CopyWalk, asNext}
+
+-- ---- the tails, each written out from the definition of the plan
+
+-- the row's strips from cell x on, and the rows after the row
+unfoldable pub restFrom : Place → ℕ → Out (Unit {0})
+restFrom p x = columns (p .copy .width) (p .copy) (p .y) (p .sy) (p .«strip_height») x >> rows (p .copy .height) (p .copy) (p .y + p .«strip_height»)
+
+unfoldable pub rectTail : Place → Out (Unit {0})
+rectTail p = emit (rectEntry p) >> restFrom p (p .x + p .strip .«strip_width»)
+
+-- the load alone
+abbrev pub loadOf : Place → Out (Unit {0})
+loadOf p = let a = areaOf p in loadTile (p .copy .siz) (field (p .copy)) (p .copy .address) 7 (a .uls) (a .ult) (a .lrs) (a .lrt)
+
+unfoldable pub loadTail : Place → Out (Unit {0})
+loadTail p = loadOf p >> rectTail p
+
+-- the strip that stands here, whole
+unfoldable pub stripTail : Place → Out (Unit {0})
+stripTail p =
+    strip (p .copy) (p .y) (p .sy) (p .«strip_height») (p .x) (p .strip)
+    >>= (λ x. columns (p .copy .width) (p .copy) (p .y) (p .sy) (p .«strip_height») x)
+    >> rows (p .copy .height) (p .copy) (p .y + p .«strip_height»)
+
+unfoldable pub tailOf : Stage → Place → Out (Unit {0})
+tailOf stage.Image p = emit (imageEntry (p .copy)) >> stripTail p
+tailOf stage.Tile7 p = stripTail p
+tailOf stage.Tile0 p = emit (tile0Entry p) >> (emit (sizeEntry p) >> loadTail p)
+tailOf stage.Size p = emit (sizeEntry p) >> loadTail p
+tailOf stage.Load p = loadTail p
+tailOf stage.Rect p = rectTail p
+tailOf stage.Done p = yield tt
+
+-- what is to come of the plan
+unfoldable pub comingCopy : Stage → Place → Plan
+comingCopy s p = planOut (tailOf s p)
+
+abbrev pub comingWalk : CopyWalk → Plan
+comingWalk w = comingCopy (w .stage) (w .place)
+
+-- ---- laws of plans
+
+plan-more : (e : Entry) (a : Out (Unit {0})) → planOut (more (e ∷ []) a) ≡ cons e (planOut a)
+plan-more e (go es u) = refl
+plan-more e (stop es l v) = refl
+
+three : (a b d : Entry) (o : Out (Unit {0})) → more (a ∷ b ∷ d ∷ []) o ≡ more (a ∷ []) (more (b ∷ []) (more (d ∷ []) o))
+three a b d (go es u) = refl
+three a b d (stop es l v) = refl
+
+-- a strip's entries before its load, the load, and its rectangle; then the next cell, and the rest
+regroup : (before : List Entry) (load : Out (Unit {0})) (rect : Entry) (x : ℕ) (k : ℕ → Out (Unit {0})) (m : Out (Unit {0}))
+    → (((more before load >> emit rect) >> yield x) >>= k) >> m ≡ more before (load >> more (rect ∷ []) (k x >> m))
+regroup before (go es u) rect x k m =
+    more-bind (((before ++ es) ++ (rect ∷ [])) ++ []) (k x) (λ _. m)
+    ∙ ap (λ (l : List Entry). more l (k x >> m)) (append-nil _ ∙ append-assoc before es (rect ∷ []))
+    ∙ sym (more-more before (es ++ (rect ∷ [])) (k x >> m))
+    ∙ ap (more before) (sym (more-more es (rect ∷ []) (k x >> m)))
+regroup before (stop es l v) rect x k m = refl
+
+-- ---- one strip
+
+too-big : (p : Place) → ltb (p .copy .capacity) (p .strip .line * p .«strip_height») ≡ true → stripTail p ≡ refuse verdict.TooBig
+unfolding stripTail strip
+too-big p t = rw (t, strip)
+
+fits : (p : Place) → ltb (p .copy .capacity) (p .strip .line * p .«strip_height») ≡ false → stripTail p ≡ (emit (tileEntry p 7 0 0) >> tailOf stage.Tile0 p)
+unfolding stripTail strip stripEntries tailOf loadTail rectTail restFrom
+fits p t =
+    let c = p .copy in
+    let x = p .x + p .strip .«strip_width» in
+    rw (t, strip)
+    (regroup (tileEntry p 7 0 0 ∷ tile0Entry p ∷ sizeEntry p ∷ []) (loadOf p) (rectEntry p) x (λ x. columns (c .width) c (p .y) (p .sy) (p .«strip_height») x) (rows (c .height) c (p .y + p .«strip_height»))
+    ∙ three (tileEntry p 7 0 0) (tile0Entry p) (sizeEntry p) (loadOf p >> rectTail p))
+
+-- ---- the rest, where there is a strip to the right, a row below, or nothing
+
+right-tail : (p : Place) (x : ℕ) → SoundCopy (p .copy) → x < p .copy .width → restFrom p x ≡ stripTail (placeAt (p .copy) x (p .y) (p .sy) (p .«strip_height»))
+unfolding restFrom stripTail
+right-tail p x s h =
+    let c = p .copy in
+    ap (λ (a : Out (Unit {0})). a >> rows (c .height) c (p .y + p .«strip_height»))
+    (columns-fuel (c .width) c (p .y) (p .sy) (p .«strip_height») x (s .image-width) (omega arith) ∙ columns-on (c .width) c (p .y) (p .sy) (p .«strip_height») x (lt-ltb x (c .width) h))
+
+row-tail : (c : Copy) (y : ℕ) → SoundCopy c → y < c .height → rows (c .height) c y ≡ stripTail (rowAt c y)
+unfolding restFrom
+row-tail c y s h =
+    rows-fuel (c .height) c y (s .rows) (s .image-height) (omega arith)
+    ∙ rows-on (c .height) c y (lt-ltb y (c .height) h)
+    ∙ right-tail (rowAt c y) 0 s (s .width)
+
+below-tail : (p : Place) (x : ℕ) → ltb x (p .copy .width) ≡ false → restFrom p x ≡ rows (p .copy .height) (p .copy) (p .y + p .«strip_height»)
+unfolding restFrom
+below-tail p x t =
+    let c = p .copy in
+    ap (λ (a : Out (Unit {0})). a >> rows (c .height) c (p .y + p .«strip_height»)) (columns-end (c .width) c (p .y) (p .sy) (p .«strip_height») x t) ∙ more-nil _
+
+-- ---- each step gives the first of what is to come
+
+tile7-follows : (p : Place) (t : Bool) → ltb (p .copy .capacity) (p .strip .line * p .«strip_height») ≡ t → Follows comingWalk (planOut (stripTail p)) (asNext (tile7Next t p))
+unfolding tile7Next comingCopy
+tile7-follows p true e = ap planOut (too-big p e)
+tile7-follows p false e = ap planOut (fits p e) ∙ plan-more (tileEntry p 7 0 0) (tailOf stage.Tile0 p)
+
+load-follows : (p : Place) (a : Area) (q : LoadRequest) → Follows comingWalk (planOut (loadOut q 7 (a .uls) (a .ult) (a .lrs) (a .lrt) >> rectTail p)) (asNext (loadNext q a p))
+unfolding loadNext loadOut comingCopy tailOf
+load-follows p a (request.Load words rows stride start length) = plan-more _ (rectTail p)
+load-follows p a request.Overflow = refl
+
+rect-follows : (p : Place) → SoundCopy (p .copy) → (t u : Bool) → ltb (p .x + p .strip .«strip_width») (p .copy .width) ≡ t → ltb (p .y + p .«strip_height») (p .copy .height) ≡ u
+    → Follows comingWalk (planOut (rectTail p)) (asNext (rectNext t u p))
+unfolding rectNext rectTail comingCopy tailOf
+rect-follows p s true u d e = plan-more (rectEntry p) (restFrom p (p .x + p .strip .«strip_width»)) ∙ ap (λ (a : Out (Unit {0})). cons (rectEntry p) (planOut a)) (right-tail p (p .x + p .strip .«strip_width») s (ltb-true _ _ d))
+rect-follows p s false true d e =
+    plan-more (rectEntry p) (restFrom p (p .x + p .strip .«strip_width»))
+    ∙ ap (λ (a : Out (Unit {0})). cons (rectEntry p) (planOut a)) (below-tail p (p .x + p .strip .«strip_width») d ∙ row-tail (p .copy) (p .y + p .«strip_height») s (ltb-true _ _ e))
+rect-follows p s false false d e =
+    plan-more (rectEntry p) (restFrom p (p .x + p .strip .«strip_width»))
+    ∙ ap (λ (a : Out (Unit {0})). cons (rectEntry p) (planOut a)) (below-tail p (p .x + p .strip .«strip_width») d ∙ rows-end (p .copy .height) (p .copy) (p .y + p .«strip_height») e)
+
+pub copy-follows : (s : Stage) (p : Place) → SoundPlace p → Follows comingWalk (comingCopy s p) (asNext (copyNextOf s p))
+unfolding copyNextOf comingCopy tailOf loadTail loadTile
+copy-follows stage.Image p h = plan-more (imageEntry (p .copy)) (stripTail p)
+copy-follows stage.Tile7 p h = tile7-follows p _ refl
+copy-follows stage.Tile0 p h = plan-more (tile0Entry p) (emit (sizeEntry p) >> loadTail p)
+copy-follows stage.Size p h = plan-more (sizeEntry p) (loadTail p)
+copy-follows stage.Load p h = load-follows p (areaOf p) (requestAt p)
+copy-follows stage.Rect p h = rect-follows p (h .copy) _ _ refl refl
+copy-follows stage.Done p h = refl
+
+-- the whole plan is to come at the start
+pub copy-start : (c : Copy) → SoundCopy c → comingCopy stage.Image (rowAt c 0) ≡ planOut (copyPlan c)
+unfolding comingCopy tailOf copyPlan
+copy-start c s = ap (λ (a : Out (Unit {0})). planOut (emit (imageEntry c) >> a)) (sym (row-tail c 0 s (s .height)))

@@ -1,0 +1,48 @@
+// Where a copy walk stands, and what one step of it answers.
+use plan::Copy;
+use plan::Entry;
+use plan::Strip;
+
+// One axis of the frame clipped by the scissor: the near edge in units, the cells inside, and the cells cut off before them.
+pub struct Axis {
+    pub edge: u64,
+    pub cells: u64,
+    pub skip: u64,
+}
+
+// The bounds of a load into tile 7.
+pub struct Area {
+    pub uls: u16,
+    pub ult: u16,
+    pub lrs: u16,
+    pub lrt: u16,
+}
+
+// Which entry is due: the texture image, one of a strip's five, or none.
+pub enum Stage {
+    Image,
+    Tile7,
+    Tile0,
+    Size,
+    Load,
+    Rect,
+    Done,
+}
+
+// The strip that a walk stands at, computed once for its five entries.
+pub struct Place {
+    pub copy: Copy,
+    pub x: u64,
+    pub y: u64,
+    pub sy: u64,
+    pub strip_height: u64,
+    pub strip: Strip,
+}
+
+// What one step answers: an entry with where the walk stands after it, or the end. A refused load has set a size.
+pub enum CopyNext {
+    Entry(Entry, Stage, Place),
+    TooBig,
+    Overflow(Entry),
+    Finished,
+}

@@ -1,0 +1,295 @@
+// The copy walk, one entry a step: the texture image, then a strip's five entries, strip after strip.
+ghost use mathlib.Core.Path.{_≡_};
+ghost use mathlib.Core.Bool.{cond};
+ghost use Prim.Native.Nat.{_+_, _-_, _*_, _%_, _^_, _≤_, _<_};
+ghost use Rattle.plan.specs.Copy.{field, bound};
+ghost use Rattle.plan.specs.Sound.{SoundCopy};
+ghost use Rattle.copy.specs.Strip.{Rows};
+ghost use Rattle.copy.specs.Walk.{placeAt, rowAt, SoundPlace, imageEntry, tileEntry, tile0Entry, sizeEntry, areaOf, firstTexel, rectEntry, loadNext, copyNextOf};
+ghost use Rattle.copy.specs.declared.types.Stage.the-variants as stage;
+use crate::strip::strip_height;
+use crate::strip::strip_of;
+use crate::strip::strip_row;
+use crate::types::Area;
+use crate::types::CopyNext;
+use crate::types::Place;
+use crate::types::Stage;
+use plan::Copy;
+use plan::Entry;
+use tile::LoadRequest;
+
+// At cell x of the row of strips at line y.
+fn place_at(c: Copy, x: u64, y: u64, sy: u64, strip_height: u64) -> Place
+    requires { ⌜ SoundCopy c ⌝ }
+    requires { ⌜ x < c .width ⌝ }
+    ensures { λ r. ⌜ r ≡ placeAt c x y sy «strip_height» ⌝ }
+{
+    let strip = strip_of(c, x);
+    Place {
+        copy: c,
+        x,
+        y,
+        sy,
+        strip_height,
+        strip,
+    }
+}
+
+// At the first cell of the row of strips at line y.
+fn row_at(c: Copy, y: u64) -> Place
+    requires { ⌜ SoundCopy c ⌝ }
+    requires { ⌜ y < c .height ⌝ }
+    ensures { λ r. ⌜ r ≡ rowAt c y ⌝ }
+{
+    let sy = strip_row(c, y);
+    let strip_height = strip_height(c, y, sy);
+    place_at(c, 0, y, sy, strip_height)
+}
+
+pub fn copy_start(c: Copy) -> Place
+    requires { ⌜ SoundCopy c ⌝ }
+    ensures { λ r. ⌜ r ≡ rowAt c 0 ⌝ }
+{
+    row_at(c, 0)
+}
+
+// The texture image's width field.
+fn width_field(image_width: u64) -> u16
+    requires { ⌜ 1 ≤ «image_width» ⌝ }
+    ensures { λ r. ⌜ r ≡ («image_width» - 1) % 2 ^ 16 ⌝ }
+{
+    ((image_width - 1) % 65536) as u16
+}
+
+fn image_entry(c: Copy) -> Entry
+    requires { ⌜ 1 ≤ c .«image_width» ⌝ }
+    ensures { λ r. ⌜ r ≡ imageEntry c ⌝ }
+{
+    let width = width_field(c.image_width);
+    Entry::Image {
+        fmt: c.fmt,
+        siz: c.siz,
+        width,
+        address: c.address,
+    }
+}
+
+fn tile_entry(p: Place, index: u8, cms: u8, masks: u8) -> Entry
+    ensures { λ r. ⌜ r ≡ tileEntry p index cms masks ⌝ }
+{
+    let c = p.copy;
+    let s = p.strip;
+    let line = (s.line % 65536) as u16;
+    Entry::Tile {
+        index,
+        fmt: c.fmt,
+        siz: c.siz,
+        line,
+        tmem: 0,
+        palette: c.palette,
+        cms,
+        cmt: 0,
+        masks,
+        maskt: 0,
+    }
+}
+
+fn tile0_entry(p: Place) -> Entry
+    ensures { λ r. ⌜ r ≡ tile0Entry p ⌝ }
+{
+    let c = p.copy;
+    if c.flip {
+        tile_entry(p, 0, 1, 15)
+    } else {
+        tile_entry(p, 0, 0, 0)
+    }
+}
+
+// A bound of a number of texels, in quarters.
+fn bound_of(texels: u64) -> u16
+    requires { ⌜ texels ≤ 65535 ⌝ }
+    ensures { λ r. ⌜ r ≡ bound texels ⌝ }
+{
+    (texels * 4 % 65536) as u16
+}
+
+fn size_entry(p: Place) -> Entry
+    requires { ⌜ SoundPlace p ⌝ }
+    ensures { λ r. ⌜ r ≡ sizeEntry p ⌝ }
+{
+    let s = p.strip;
+    let lrs = bound_of(s.load_width - 1);
+    let lrt = bound_of(p.strip_height - 1);
+    Entry::Size {
+        index: 0,
+        uls: 0,
+        ult: 0,
+        lrs,
+        lrt,
+    }
+}
+
+fn area_of(p: Place) -> Area
+    requires { ⌜ SoundPlace p ⌝ }
+    ensures { λ r. ⌜ r ≡ areaOf p ⌝ }
+{
+    let s = p.strip;
+    let uls = bound_of(s.aligned_left);
+    let ult = bound_of(p.sy);
+    let lrs = bound_of(s.aligned_left + s.load_width - 1);
+    let lrt = bound_of(p.sy + p.strip_height - 1);
+    Area { uls, ult, lrs, lrt }
+}
+
+// A flipped strip starts at the end of what was loaded, and runs back.
+fn first_texel(flip: bool, load_width: u64, offset: u64) -> i16
+    requires { ⌜ («load_width» ≤ 65535) × (offset ≤ 65535) ⌝ }
+    ensures { λ r. ⌜ r ≡ firstTexel flip «load_width» offset ⌝ }
+{
+    if flip {
+        signed::signed16(-(load_width as i64) * 32)
+    } else {
+        signed::signed16(offset as i64 * 32)
+    }
+}
+
+// The last of a number of cells, which the rectangle includes, in units.
+fn last_of(edge: u64, first: u64, count: u64) -> u64
+    requires { ⌜ (edge ≤ 4092) × (1 ≤ count) × (first + count ≤ 1023) ⌝ }
+    ensures { λ r. ⌜ r ≡ edge + (first + count - 1) * 4 ⌝ }
+{
+    edge + (first + count - 1) * 4
+}
+
+fn rect_entry(p: Place) -> Entry
+    requires { ⌜ SoundPlace p ⌝ }
+    ensures { λ r. ⌜ r ≡ rectEntry p ⌝ }
+{
+    let c = p.copy;
+    let s = p.strip;
+    let lrx = last_of(c.left, p.x, s.strip_width);
+    let lry = last_of(c.top, p.y, p.strip_height);
+    let uls = first_texel(c.flip, s.load_width, s.offset);
+    Entry::Rect {
+        tile: 0,
+        ulx: c.left + p.x * 4,
+        uly: c.top + p.y * 4,
+        lrx,
+        lry,
+        uls,
+        ult: 0,
+        dsdx: 0x1000,
+        dtdy: 0x400,
+        row: p.sy,
+    }
+}
+
+// Tile 7 is due: the strip must fit texture memory.
+fn tile7_next(p: Place) -> CopyNext
+    requires { ⌜ SoundPlace p ⌝ }
+    ensures { λ r. ⌜ r ≡ copyNextOf stage.Tile7 p ⌝ }
+{
+    let c = p.copy;
+    let s = p.strip;
+    if c.capacity < s.line * p.strip_height {
+        return CopyNext::TooBig;
+    }
+    let entry = tile_entry(p, 7, 0, 0);
+    CopyNext::Entry(entry, Stage::Tile0, p)
+}
+
+// The answer to what the load asked for.
+fn loaded(request: LoadRequest, a: Area, p: Place) -> CopyNext
+    ensures { λ r. ⌜ r ≡ loadNext request a p ⌝ }
+{
+    match request {
+        LoadRequest::Load {
+            words,
+            rows,
+            stride,
+            start,
+            length,
+        } => {
+            let entry = Entry::Load {
+                index: 7,
+                uls: a.uls,
+                ult: a.ult,
+                lrs: a.lrs,
+                lrt: a.lrt,
+                words,
+                rows,
+                stride,
+                start,
+                length,
+            };
+            CopyNext::Entry(entry, Stage::Rect, p)
+        }
+        LoadRequest::Overflow => {
+            let size = Entry::Size {
+                index: 7,
+                uls: a.uls,
+                ult: a.ult,
+                lrs: a.lrs,
+                lrt: a.lrt,
+            };
+            CopyNext::Overflow(size)
+        }
+    }
+}
+
+fn load_next(p: Place) -> CopyNext
+    requires { ⌜ SoundPlace p ⌝ }
+    ensures { λ r. ⌜ r ≡ copyNextOf stage.Load p ⌝ }
+{
+    let c = p.copy;
+    let a = area_of(p);
+    let width = width_field(c.image_width);
+    let request = tile::load_request(c.siz, width, c.address, a.uls, a.ult, a.lrs, a.lrt);
+    loaded(request, a, p)
+}
+
+// The rectangle is due: after it the strip to the right, the row below, or the end.
+fn rect_next(p: Place) -> CopyNext
+    requires { ⌜ SoundPlace p ⌝ }
+    ensures { λ r. ⌜ r ≡ copyNextOf stage.Rect p ⌝ }
+{
+    let c = p.copy;
+    let s = p.strip;
+    let entry = rect_entry(p);
+    let right = p.x + s.strip_width;
+    if right < c.width {
+        let place = place_at(c, right, p.y, p.sy, p.strip_height);
+        return CopyNext::Entry(entry, Stage::Tile7, place);
+    }
+    let below = p.y + p.strip_height;
+    if below < c.height {
+        let place = row_at(c, below);
+        CopyNext::Entry(entry, Stage::Tile7, place)
+    } else {
+        CopyNext::Entry(entry, Stage::Done, p)
+    }
+}
+
+pub fn copy_next(stage: Stage, place: Place) -> CopyNext
+    requires { ⌜ SoundPlace place ⌝ }
+    ensures { λ r. ⌜ r ≡ copyNextOf stage place ⌝ }
+{
+    match stage {
+        Stage::Image => {
+            let entry = image_entry(place.copy);
+            CopyNext::Entry(entry, Stage::Tile7, place)
+        }
+        Stage::Tile7 => tile7_next(place),
+        Stage::Tile0 => {
+            let entry = tile0_entry(place);
+            CopyNext::Entry(entry, Stage::Size, place)
+        }
+        Stage::Size => {
+            let entry = size_entry(place);
+            CopyNext::Entry(entry, Stage::Load, place)
+        }
+        Stage::Load => load_next(place),
+        Stage::Rect => rect_next(place),
+        Stage::Done => CopyNext::Finished,
+    }
+}

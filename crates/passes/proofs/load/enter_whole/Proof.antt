@@ -1,0 +1,21 @@
+use borrow.Author.Needs.{needs}
+use Rattle.passes.proofs.load.enter_whole.Statement.{statement}
+use Rattle.passes.proofs.load.enter_whole.Tie as tie
+use Rattle.passes.proofs.load.enter_whole.Reads as reads
+use Rattle.passes.proofs.load.enter_whole.Lts as lts
+use Rattle.passes.proofs.load.part_bad.Reads as part-bad-reads
+
+-- src/load.rt:69:8
+part-bad-requires : tie.Need-part-bad-requires
+part-bad-requires c κs = search needs
+
+-- src/load.rt:70:9
+returns : tie.Need-returns
+returns c = ?
+
+-- src/load.rt:64:1
+returns-2 : tie.Need-returns-2
+returns-2 c = ?
+
+pub enter-whole-spec : {M : Type 1} → statement M
+enter-whole-spec = tie.close (tie.spec part-bad-requires returns returns-2)

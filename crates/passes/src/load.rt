@@ -1,0 +1,269 @@
+// The parts of a pass's load, in their order: `load_1cyc` and `load_1cyc_tile`.
+ghost use mathlib.Core.Path.{_≡_};
+ghost use Prim.Native.Nat.{_+_, _-_, _*_, _≤_};
+ghost use Rattle.object.specs.Range.{Within};
+ghost use Rattle.plan.specs.Sound.{SoundScaled};
+ghost use Rattle.plan.specs.Scaled.{back as backOf, load1cyc};
+ghost use Rattle.passes.specs.Coming.{sumOut, passFrom, partThen, wholeThen, topThen, partsFrom, afterPart};
+ghost use Rattle.passes.specs.Loads.{partBad};
+ghost use Rattle.passes.specs.Sound.{SoundPass, SplitIs, Reaches, leftPass, afterPiece};
+ghost use Rattle.passes.specs.declared.types.Piece.the-variants.{Whole, Top, SplitB, SplitA, Rest};
+use crate::rows::difference;
+use crate::rows::less;
+use crate::rows::plus;
+use crate::rows::sum;
+use crate::rows::times;
+use crate::sums::advance;
+use crate::sums::source_address;
+use crate::types::Moved;
+use crate::types::Part;
+use crate::types::Piece;
+use crate::types::Place;
+use crate::types::Reached;
+use crate::types::Split;
+use crate::types::Stage;
+use crate::types::Sum;
+use object::Verdict;
+use plan::Scaled;
+use plan::Source;
+
+// Verdict 8: no rows, no columns, or a place before texture memory.
+fn part_bad(rows: i64, destination: i64, width: i64) -> bool
+    ensures { λ r. ⌜ r ≡ partBad rows destination width ⌝ }
+{
+    if rows <= 0 {
+        return true;
+    }
+    if width <= 0 {
+        return true;
+    }
+    destination < 0
+}
+
+// The part as the next that is given, with its tile, or verdict 8.
+fn enter(k: Piece, pointer: u64, rows: i64, destination: i64, width: i64, p: Place) -> Reached
+    requires { ⌜ SoundPass p ⌝ }
+    requires { ⌜ (Within 47 rows) × Within 47 width ⌝ }
+    ensures { λ r. ⌜ Reaches (partThen k p pointer rows destination width) (3 + afterPiece k + leftPass p) r ⌝ }
+{
+    if part_bad(rows, destination, width) {
+        return Reached::Ended(Verdict::Piece);
+    }
+    let part = Part {
+        pointer,
+        rows,
+        destination,
+        width,
+    };
+    let mut q = p;
+    q.part = part;
+    Reached::At(Stage::Tile(k), q)
+}
+
+// The whole load in one part, over the tile that stands.
+fn enter_whole(rows: i64, width: i64, p: Place) -> Reached
+    requires { ⌜ SoundPass p ⌝ }
+    requires { ⌜ (Within 47 rows) × Within 47 width ⌝ }
+    ensures { λ r. ⌜ Reaches (wholeThen p rows width) (3 + leftPass p) r ⌝ }
+{
+    if part_bad(rows, 0, width) {
+        return Reached::Ended(Verdict::Piece);
+    }
+    let w = p.walk;
+    let source = w.source;
+    let part = Part {
+        pointer: source.pointer,
+        rows,
+        destination: 0,
+        width,
+    };
+    let mut q = p;
+    q.part = part;
+    Reached::At(Stage::Image(Piece::Whole), q)
+}
+
+// One row back, where a load must start at an even row.
+fn back(z: Scaled, odd: u64, pointer: u64) -> Sum
+    requires { ⌜ SoundScaled z ⌝ }
+    ensures { λ r. ⌜ sumOut r ≡ backOf z odd pointer ⌝ }
+{
+    if odd == 0 {
+        return Sum::At(pointer);
+    }
+    source_address(pointer, 0 - z.stride as i64)
+}
+
+// After the rows up to the image's end: the move, and the rectangle.
+fn moved(p: Place) -> Reached
+    requires { ⌜ SoundPass p ⌝ }
+    ensures { λ r. ⌜ Reaches (passFrom p (afterPart Rest p)) (1 + leftPass p) r ⌝ }
+{
+    let w = p.walk;
+    let source = w.source;
+    match advance(p.scaled, source, p.rows) {
+        Moved::Overflow => Reached::Ended(Verdict::Address),
+        Moved::To(next) => {
+            let mut q = p;
+            q.next = next;
+            Reached::At(Stage::Rect, q)
+        }
+    }
+}
+
+// The move where no row wraps.
+fn moved_on(p: Place) -> Reached
+    requires { ⌜ SoundPass p ⌝ }
+    ensures { λ r. ⌜ Reaches (passFrom p (afterPart Whole p)) (1 + leftPass p) r ⌝ }
+{
+    let z = p.scaled;
+    let w = p.walk;
+    let source = w.source;
+    let rows = p.rows;
+    match source_address(source.pointer, times(rows, z.stride)) {
+        Sum::Overflow => Reached::Ended(Verdict::Address),
+        Sum::At(pointer) => {
+            let remain = difference(source.remain, rows);
+            let next = Source { pointer, remain };
+            let mut q = p;
+            q.next = next;
+            Reached::At(Stage::Rect, q)
+        }
+    }
+}
+
+// The rows before the image's last; where there are none, the tile alone.
+fn rest(p: Place) -> Reached
+    requires { ⌜ SoundPass p ⌝ }
+    ensures { λ r. ⌜ Reaches (passFrom p (afterPart SplitA p)) (4 + leftPass p) r ⌝ }
+{
+    let z = p.scaled;
+    let w = p.walk;
+    let source = w.source;
+    let loadable = less(source.remain, z.split);
+    if loadable <= 0 {
+        return Reached::At(Stage::Last, p);
+    }
+    enter(Piece::Rest, source.pointer, loadable, 0, z.line as i64, p)
+}
+
+// The two parts of the image's last row: their rows, where they go, and the width of the first.
+fn split(z: Scaled, source: Source) -> Split
+    requires { ⌜ SoundScaled z ⌝ }
+    requires { ⌜ Within 44 (source .remain) ⌝ }
+    ensures { λ r. ⌜ SplitIs z source r ⌝ }
+{
+    let loadable = less(source.remain, z.split);
+    let odd = signed::rem_euclid(loadable, 2);
+    let from = times(less(loadable, odd), z.line);
+    let width = signed::floor_div(less(z.stride as i64, z.x_offset), 8);
+    Split {
+        odd,
+        from,
+        width,
+    }
+}
+
+fn split_a(p: Place) -> Reached
+    requires { ⌜ SoundPass p ⌝ }
+    ensures { λ r. ⌜ Reaches (passFrom p (afterPart SplitB p)) (7 + leftPass p) r ⌝ }
+{
+    let w = p.walk;
+    let source = w.source;
+    let s = split(p.scaled, source);
+    let rows = s.odd as i64 + 1;
+    enter(Piece::SplitA, p.spare, rows, s.from, s.width, p)
+}
+
+// The second part of the last row comes first.
+fn split_b(pointer: u64, spare: u64, s: Split, p: Place) -> Reached
+    requires { ⌜ SoundPass p ⌝ }
+    requires { ⌜ SplitIs (p .scaled) (p .walk .source) s ⌝ }
+    ensures { λ r. ⌜ Reaches (partsFrom p pointer spare) (10 + leftPass p) r ⌝ }
+{
+    let z = p.scaled;
+    let rows = s.odd as i64 + 1;
+    let destination = sum(s.from, s.width);
+    let width = difference(z.line as i64, s.width);
+    let mut q = p;
+    q.spare = spare;
+    enter(Piece::SplitB, pointer, rows, destination, width, q)
+}
+
+// The image's last row where it runs over into the first.
+fn split_row(p: Place) -> Reached
+    requires { ⌜ SoundPass p ⌝ }
+    ensures { λ r. ⌜ Reaches (passFrom p (afterPart Top p)) (10 + leftPass p) r ⌝ }
+{
+    let z = p.scaled;
+    if z.split == 0 {
+        return rest(p);
+    }
+    let w = p.walk;
+    let source = w.source;
+    let s = split(z, source);
+    let loadable = less(source.remain, z.split);
+    let Sum::At(p1) = source_address(source.pointer, times(loadable, z.stride)) else {
+        return Reached::Ended(Verdict::Address);
+    };
+    let Sum::At(p1a) = back(z, s.odd, p1) else {
+        return Reached::Ended(Verdict::Address);
+    };
+    let Sum::At(p1b) = back(z, s.odd, z.address) else {
+        return Reached::Ended(Verdict::Address);
+    };
+    split_b(p1b, p1a, s, p)
+}
+
+// The rows from the image's top, after its last row.
+fn from_top(lines: i64, p: Place) -> Reached
+    requires { ⌜ SoundPass p ⌝ }
+    requires { ⌜ Within 44 lines ⌝ }
+    ensures { λ r. ⌜ Reaches (topThen p lines) (13 + leftPass p) r ⌝ }
+{
+    let z = p.scaled;
+    let w = p.walk;
+    let source = w.source;
+    let rows = difference(lines, source.remain);
+    if rows <= 0 {
+        return split_row(p);
+    }
+    let Sum::At(first) = source_address(z.address, z.x_offset as i64) else {
+        return Reached::Ended(Verdict::Address);
+    };
+    let odd = signed::rem_euclid(source.remain, 2);
+    let Sum::At(pointer) = back(z, odd, first) else {
+        return Reached::Ended(Verdict::Address);
+    };
+    let destination = times(less(source.remain, odd), z.line);
+    enter(Piece::Top, pointer, plus(rows, odd), destination, z.line as i64, p)
+}
+
+// What comes after a part.
+pub fn after_part(k: Piece, p: Place) -> Reached
+    requires { ⌜ SoundPass p ⌝ }
+    ensures { λ r. ⌜ Reaches (passFrom p (afterPart k p)) (afterPiece k + leftPass p) r ⌝ }
+{
+    match k {
+        Piece::Whole => moved_on(p),
+        Piece::Top => split_row(p),
+        Piece::SplitB => split_a(p),
+        Piece::SplitA => rest(p),
+        Piece::Rest => moved(p),
+    }
+}
+
+// The load of a pass's rows.
+pub fn load_1cyc(p: Place) -> Reached
+    requires { ⌜ SoundPass p ⌝ }
+    ensures { λ r. ⌜ Reaches (passFrom p (load1cyc (p .scaled) (p .walk .source) (p .rows))) (13 + leftPass p) r ⌝ }
+{
+    let z = p.scaled;
+    let w = p.walk;
+    let source = w.source;
+    let load_rows = plus(p.rows, z.bilerp);
+    let loadable = less(source.remain, z.split);
+    if load_rows <= loadable {
+        return enter_whole(load_rows, z.line as i64, p);
+    }
+    from_top(load_rows, p)
+}
