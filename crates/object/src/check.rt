@@ -103,11 +103,13 @@ fn refused_by(test: bool, verdict: Verdict, rest: Checked) -> Checked
 fn object_checked(copy: bool, bg: ObjBg) -> Checked
     ensures { λ r. ⌜ r ≡ objectOf copy bg ⌝ }
 {
+    let object = object_bad(bg);
     if copy {
-        let rest = refused_by(copy_bad(bg), Verdict::Copy, Checked::Copy(bg));
-        refused_by(object_bad(bg), Verdict::Object, rest)
+        let format = copy_bad(bg);
+        let rest = refused_by(format, Verdict::Copy, Checked::Copy(bg));
+        refused_by(object, Verdict::Object, rest)
     } else {
-        refused_by(object_bad(bg), Verdict::Object, Checked::Scaled(bg))
+        refused_by(object, Verdict::Object, Checked::Scaled(bg))
     }
 }
 

@@ -28,23 +28,26 @@ fn big_endian(s: &[u8], at: usize, n: usize) -> u64
     number
 }
 
-pub fn new<'a>(src: &'a [u8]) -> Reader<'a>
-    ensures { λ r. ⌜ (r .src ≡ src .entry) × (r .at ≡ 0) ⌝ }
-{
-    Reader { src, at: 0 }
-}
+impl<'a> Reader<'a> {
+    pub fn new(src: &'a [u8]) -> Reader<'a>
+        ensures { λ r. ⌜ (r .src ≡ src .entry) × (r .at ≡ 0) ⌝ }
+    {
+        Reader { src, at: 0 }
+    }
 
-pub fn moved<'a>(r: Reader<'a>, at: usize) -> Reader<'a>
-    ensures { λ q. ⌜ (q .src ≡ r .entry .src) × (q .at ≡ at) ⌝ }
-{
-    Reader { src: r.src, at }
-}
+    pub fn moved(self, at: usize) -> Reader<'a>
+        ensures { λ r. ⌜ (r .src ≡ self .entry .src) × (r .at ≡ at) ⌝ }
+    {
+        Reader { src: self.src, at }
+    }
 
-pub fn read<'a>(r: Reader<'a>, n: usize) -> u64
-    requires { ⌜ Held (now (r .src)) (r .at) n ⌝ }
-    ensures { λ v. ⌜ ReadIs (now (r .entry .src)) (r .entry .at) n v ⌝ }
-{
-    big_endian(r.src, r.at, n)
+    // The number in the next `n` bytes.
+    pub fn read(self, n: usize) -> u64
+        requires { ⌜ Held (now (self .src)) (self .at) n ⌝ }
+        ensures { λ v. ⌜ ReadIs (now (self .entry .src)) (self .entry .at) n v ⌝ }
+    {
+        big_endian(self.src, self.at, n)
+    }
 }
 
 // A field, by its place and its width: with plain parameters, so that callers need no walk.
@@ -52,5 +55,5 @@ pub fn field_from(s: &[u8], at: usize, n: usize) -> u64
     requires { ⌜ Held (now s) at n ⌝ }
     ensures { λ r. ⌜ ReadIs (now (s .entry)) at n r ⌝ }
 {
-    read(moved(new(s), at), n)
+    Reader::new(s).moved(at).read(n)
 }

@@ -1,14 +1,15 @@
 -- Ranges of signed sums and products, by powers of two.
 -- Assumes nothing.
 use mathlib.Core.Path.{_≡_}
-use Prim.Native.Nat.{ℕ, suc, _+_, _-_, _*_, _^_, _≤_}
+use Prim.Native.Nat.{ℕ, suc, _+_, _-_, _*_, _/_, _^_, _≤_}
 use native.Mathlib.Omega.{arith}
-use native.Mathlib.Nat.{mul-le-mul, pow-suc}
+use native.Mathlib.Nat.{mul-le-mul, pow-suc, div-le-self}
 use lib.IntN.{ℤ, pos, negsuc, _+ℤ_, _-ℤ_, _*ℤ_}
 use lib.Pow.{pow-add, pow-pos}
 use mir.Syntax.{w64}
 use mir.Val.{SFits, toZ, ofZ}
 use Rattle.signed.specs.Diff.{up, dn, zdiff, zarith}
+use Rattle.signed.specs.Floor.{floorDiv}
 use Rattle.signed.specs.Word.{rd}
 use Rattle.object.specs.Range.{Within}
 
@@ -67,3 +68,14 @@ fits k z p f =
 -- and its bits read as it
 pub read-in : (k : ℕ) (z : ℤ) → 2 ^ k ≤ 2 ^ 62 → Within k z → toZ w64 (ofZ w64 z) ≡ z
 read-in k z p f = rd (fits k z p f)
+
+pub sum-in : (k : ℕ) (a b : ℤ) → Within k a → Within k b → Within (suc k) (a +ℤ b)
+sum-in k a b f g =
+    let p = bounded k a f in
+    let q = bounded k b g in
+    let e = pow-suc 2 k in
+    record { low = simp zdiff (omega zarith); high = simp zdiff (omega zarith) }
+
+pub floor-in : (k : ℕ) (z : ℤ) (m : ℕ) → Within k z → Within k (floorDiv z m)
+floor-in k (pos n) m f = let b = bounded k (pos n) f in within k (pos (n / m)) (omega (arith, b .up-le, div-le-self n m)) (omega arith)
+floor-in k (negsuc n) m f = let b = bounded k (negsuc n) f in within k (negsuc (n / m)) (omega arith) (omega (arith, b .dn-le, div-le-self n m))

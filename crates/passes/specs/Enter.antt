@@ -9,16 +9,16 @@ use lib.Dec.{eqb}
 use Rattle.signed.specs.Floor.{modulo}
 use Rattle.plan.specs.Next.{ended}
 use lib.IntN.{ℤ, pos, _+ℤ_, _-ℤ_, _*ℤ_}
-use lib.Signed.{ltZ}
+use lib.Signed.{ltZ, leZ}
 use Rattle.object.specs.declared.types.Verdict.{Verdict}
 use Rattle.object.specs.declared.types.Verdict.the-variants as verdict
 use Rattle.object.specs.Range.{Within}
 use Rattle.plan.specs.declared.types.Scaled.{Scaled}
 use Rattle.plan.specs.declared.types.Source.{Source}
 use Rattle.plan.specs.Out.{Out, Plan, _>>=_, _>>_, yield, refuse, emit, planOut}
-use Rattle.plan.specs.Laws.{bind-assoc, more-nil}
+use Rattle.plan.specs.Laws.{more-nil}
 use Rattle.plan.specs.Load.{sourceAddress}
-use Rattle.plan.specs.Scaled.{tile7, loadPart, load1cycTile, back, fromTop, splitRow, upToEnd, advance}
+use Rattle.plan.specs.Scaled.{tile7, loadPart, load1cycTile, back, fromTop, splitRow, upToEnd, advance, load1cyc}
 use Rattle.passes.specs.declared.types.Part.{Part}
 use Rattle.passes.specs.declared.types.Piece.{Piece}
 use Rattle.passes.specs.declared.types.Piece.the-variants as piece
@@ -27,7 +27,7 @@ use Rattle.passes.specs.declared.types.Place.{Place}
 use Rattle.passes.specs.declared.types.Reached.{Reached}
 use Rattle.passes.specs.declared.types.Reached.the-variants as reached
 use Rattle.passes.specs.Coming.{loadableOf, splitRows, splitFrom, splitWidth, partsFrom, topThen, restOut, wholeOut, pieceOut, drawn, passFrom, partThen, wholeThen, afterPart, comingScaled}
-use Rattle.passes.specs.Loads.{partBad, part-refused, part-given, part-whole, split-on, split-off, rest-on, rest-off, top-on, top-off}
+use Rattle.passes.specs.Loads.{then-assoc, partBad, part-refused, part-given, part-whole, split-on, split-off, rest-on, rest-off, top-on, top-off, load-whole, load-wraps}
 use Rattle.passes.specs.Kept.{Left, advance-left, stay-left, draw-kept}
 use Rattle.passes.specs.Sound.{SoundPass, SoundPart, SoundPiece, SoundRect, Reaches, leftPass, afterPiece}
 
@@ -37,6 +37,12 @@ withPart p q = record { scaled = p .scaled; walk = p .walk; rows = p .rows; line
 
 abbrev pub withNext : Place → Source → Place
 withNext p s = record { scaled = p .scaled; walk = p .walk; rows = p .rows; lines = p .lines; part = p .part; spare = p .spare; next = s }
+
+abbrev pub withSpare : Place → ℕ → Place
+withSpare p n = record { scaled = p .scaled; walk = p .walk; rows = p .rows; lines = p .lines; part = p .part; spare = n; next = p .next }
+
+pub spare-sound : (p : Place) (n : ℕ) → SoundPass p → SoundPass (withSpare p n)
+spare-sound p n h = record { scaled = h .scaled; walk = h .walk; draws = h .draws; lines = h .lines; left = h .left; rows = h .rows; rows′ = h .rows′; whole = h .whole }
 
 abbrev pub partOf : ℕ → (rows destination width : ℤ) → Part
 partOf pointer rows destination width = record { pointer = pointer; rows = rows; destination = destination; width = width }
@@ -56,7 +62,7 @@ module _ (k : Piece) (p : Place) (pointer : ℕ) (rows destination width : ℤ) 
   unfolding comingScaled
   enter-given t =
       record {
-        is = sym (ap (passFrom p) (ap (λ (o : Out (Unit {0})). o >> afterPart k p) (part-given (p .scaled) pointer rows destination width t) ∙ bind-assoc (emit (tile7 (p .scaled) destination)) _ _));
+        is = sym (ap (passFrom p) (ap (λ (o : Out (Unit {0})). o >> afterPart k p) (part-given (p .scaled) pointer rows destination width t) ∙ then-assoc (emit (tile7 (p .scaled) destination)) (loadPart (p .scaled) pointer rows width) (afterPart k p)));
         sound = record { pass = same-pass p (partOf pointer rows destination width) h; part = record { rows = r; width = w } };
         left = omega arith;
       }
@@ -167,7 +173,7 @@ module _ (p : Place) where
 
         pub split-4 : (p1b : ℕ) → yield p1b ≡ back (p .scaled) odd (p .scaled .address) → partsFrom p p1b p1a ≡ passFrom p (afterPart piece.Top p)
         unfolding pieceOut
-        split-4 p1b g = sym (ap (passFrom p) (ap (λ (x : Out (Unit {0})). x >> restOut (p .scaled) (p .walk .source) (p .rows)) (both-parts p1b g) ∙ bind-assoc (load1cycTile (p .scaled) p1b (splitRows (p .scaled) (p .walk .source)) (splitFrom (p .scaled) (p .walk .source) +ℤ splitWidth (p .scaled)) (pos (p .scaled .line) -ℤ splitWidth (p .scaled)) true) _ _))
+        split-4 p1b g = sym (ap (passFrom p) (ap (λ (x : Out (Unit {0})). x >> restOut (p .scaled) (p .walk .source) (p .rows)) (both-parts p1b g) ∙ then-assoc (load1cycTile (p .scaled) p1b (splitRows (p .scaled) (p .walk .source)) (splitFrom (p .scaled) (p .walk .source) +ℤ splitWidth (p .scaled)) (pos (p .scaled .line) -ℤ splitWidth (p .scaled)) true) (load1cycTile (p .scaled) p1a (splitRows (p .scaled) (p .walk .source)) (splitFrom (p .scaled) (p .walk .source)) (splitWidth (p .scaled)) true) (restOut (p .scaled) (p .walk .source) (p .rows))))
 
   -- R 184: no rows from the top
   module _ (load-rows : ℤ) where
@@ -190,3 +196,13 @@ module _ (p : Place) where
         pub top-3 : (p2′ : ℕ) → yield p2′ ≡ back (p .scaled) odd p2
             → partThen piece.Top p p2′ (load-rows -ℤ p .walk .source .remain +ℤ pos odd) ((p .walk .source .remain -ℤ pos odd) *ℤ pos (p .scaled .line)) (pos (p .scaled .line)) ≡ topThen p load-rows
         top-3 p2′ f = sym (ap (passFrom p) (ap (λ (x : Out (Unit {0})). x >> afterPart piece.Top p) (from-top p2′ f)))
+
+  -- R 175: no row wraps, or one does
+  pub whole-is : leZ (p .rows +ℤ pos (p .scaled .bilerp)) (loadableOf (p .scaled) (p .walk .source)) ≡ true
+      → wholeThen p (p .rows +ℤ pos (p .scaled .bilerp)) (pos (p .scaled .line)) ≡ passFrom p (load1cyc (p .scaled) (p .walk .source) (p .rows))
+  unfolding pieceOut
+  whole-is t = sym (ap (passFrom p) (load-whole (p .scaled) (p .walk .source) (p .rows) t))
+
+  pub wraps-is : leZ (p .rows +ℤ pos (p .scaled .bilerp)) (loadableOf (p .scaled) (p .walk .source)) ≡ false → topThen p (p .rows +ℤ pos (p .scaled .bilerp)) ≡ passFrom p (load1cyc (p .scaled) (p .walk .source) (p .rows))
+  unfolding pieceOut
+  wraps-is t = sym (ap (passFrom p) (load-wraps (p .scaled) (p .walk .source) (p .rows) t))

@@ -23,6 +23,8 @@ use Rattle.plan.specs.Load.{sourceAddress}
 use Rattle.plan.specs.Sound.{SoundScaled}
 use Rattle.plan.specs.Scaled.{drawOf, leftAfter, linesOf, rowsOf, nextPass, afterDraw, advance}
 use Rattle.passes.specs.declared.types.Place.{Place}
+use Rattle.object.specs.Range.{Within}
+use Rattle.passes.specs.Comes.{within}
 use Rattle.passes.specs.Loads.{advance-on, advance-wrap}
 use Rattle.passes.specs.Sound.{SoundWalk, SoundPass, SoundRect}
 
@@ -150,3 +152,17 @@ module _ (p : Place) (next : Source) (h : SoundPass p) (l : Left (p .walk .sourc
           }
       by (pos c) (negsuc f) vp fp ln dr lo hi q r fy fl = let k = simp zdiff at fp in absurd (omega zarith)
       by (negsuc c) f vp fp ln dr lo hi q r fy fl = absurd (omega zarith)
+
+-- the ranges of a walk's row counts, as powers of two
+pub remain-in : (w : Walk) → SoundWalk w → Within 43 (w .source .remain)
+remain-in w h = by (w .count) (h .count) (h .count′) (h .low) (h .high)
+  where
+    by : (v : ℤ) → pos 0 ≤ℤ v → v ≤ℤ pos (2 ^ 31) → dn (w .source .remain) + 1280000 * up (w .«frame_remain») ≤ 2 ^ 40 + 20000 * (up v / 16) → up (w .source .remain) + dn (w .«slice_rows») ≤ 2 ^ 28 → Within 43 (w .source .remain)
+    by (pos c) p q l k = within 43 (w .source .remain) (omega zarith) (omega zarith)
+    by (negsuc c) p q l k = absurd (omega zarith)
+
+pub rows-in : (p : Place) → SoundPass p → Within 43 (p .rows)
+rows-in p h = let a = h .rows in let b = h .rows′ in record { low = omega zarith; high = omega zarith }
+
+pub slice-in : (w : Walk) → SoundWalk w → Within 43 (w .«slice_rows»)
+slice-in w h = let a = h .slice-rows in let b = h .slice-rows′ in record { low = omega zarith; high = omega zarith }

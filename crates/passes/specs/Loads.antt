@@ -1,12 +1,13 @@
 -- The branches of a load's definitions, each with the test that leads there.
 -- Assumes nothing.
 use mathlib.Core.Path.{_≡_, refl, sym, ap, _∙_}
-use mathlib.Core.Bool.{Bool, true, false, cond, _||_}
+use mathlib.Core.Bool.{Bool, true, false, cond, _||_, false≢true}
 use mathlib.Core.List.{List, [], _∷_, _++_}
 use Prim.Native.Nat.{ℕ, _+_, _*_, _≤_}
 use lib.Dec.{eqb}
-use lib.IntN.{ℤ, pos, negℤ, _+ℤ_, _-ℤ_, _*ℤ_}
+use lib.IntN.{ℤ, pos, negsuc, negℤ, _+ℤ_, _-ℤ_, _*ℤ_}
 use lib.Signed.{leZ, ltZ}
+use borrow.Author.Tests.{le-ltb, lt-ltb, leb-true, leb-false}
 use Rattle.signed.specs.Floor.{floorDiv, modulo}
 use Rattle.object.specs.declared.types.Verdict.{Verdict}
 use Rattle.object.specs.declared.types.Verdict.the-variants as verdict
@@ -136,3 +137,24 @@ module _ (rows destination width : ℤ) where
 
   pub bad-place : leZ rows (pos 0) ≡ false → leZ width (pos 0) ≡ false → partBad rows destination width ≡ ltZ destination (pos 0)
   bad-place t u = rw (t, u)
+
+-- R 189–190, 201–203
+module _ (z : Scaled) (odd p : ℕ) where
+  pub back-none : eqb odd 0 ≡ true → back z odd p ≡ yield p
+  back-none t = rw (t, back)
+
+  pub back-one : eqb odd 0 ≡ false → back z odd p ≡ sourceAddress p (negℤ (pos (z .stride)))
+  back-one t = rw (t, back)
+
+-- what is given first stays first
+pub then-assoc : {A B C : Type 0} (a : Out A) (b : Out B) (c : Out C) → ((a >> b) >> c) ≡ (a >> (b >> c))
+then-assoc a b c = bind-assoc a (λ _. b) (λ _. c)
+
+-- a test for at most 0, and its opposite
+pub none-left : (v : ℤ) → leZ v (pos 0) ≡ true → ltZ (pos 0) v ≡ false
+none-left (pos n) t = le-ltb 0 n (leb-true n 0 t)
+none-left (negsuc n) t = refl
+
+pub positive : (v : ℤ) → leZ v (pos 0) ≡ false → ltZ (pos 0) v ≡ true
+positive (pos n) t = lt-ltb 0 n (leb-false n 0 t)
+positive (negsuc n) t = absurd (false≢true (sym t))

@@ -57,7 +57,7 @@ pub record SplitIs (z : Scaled) (src : Source) (s : Split) : Type 0 where
   pub odd : s .odd ≡ modulo (loadableOf z src) 2
   pub odd′ : s .odd ≤ 1
   pub from : s .from ≡ splitFrom z src
-  pub from′ : Within 60 (s .from)
+  pub from′ : Within 61 (s .from)
   pub width : s .width ≡ splitWidth z
   pub width′ : Within 20 (s .width)
 

@@ -149,7 +149,7 @@ fn rest(p: Place) -> Reached
 // The two parts of the image's last row: their rows, where they go, and the width of the first.
 fn split(z: Scaled, source: Source) -> Split
     requires { ⌜ SoundScaled z ⌝ }
-    requires { ⌜ Within 44 (source .remain) ⌝ }
+    requires { ⌜ Within 43 (source .remain) ⌝ }
     ensures { λ r. ⌜ SplitIs z source r ⌝ }
 {
     let loadable = less(source.remain, z.split);

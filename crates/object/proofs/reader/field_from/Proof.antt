@@ -41,18 +41,18 @@ use Rattle.object.specs.Layout.{Held, ReadIs}
 use Rattle.object.specs.declared.reader.Reader.{Reader}
 use Rattle.object.proofs.reader.Reader as T
 use Rattle.object.proofs.reader.Reader.Laws as T′
-use Rattle.object.proofs.reader.new as new
-use Rattle.object.proofs.reader.new.Symbol as new-def
-use Rattle.object.proofs.reader.new.Symbol.{name as #object·new}
-use Rattle.object.proofs.reader.new.Met as new-thm
-use Rattle.object.proofs.reader.moved as moved
-use Rattle.object.proofs.reader.moved.Symbol as moved-def
-use Rattle.object.proofs.reader.moved.Symbol.{name as #object·moved}
-use Rattle.object.proofs.reader.moved.Met as moved-thm
-use Rattle.object.proofs.reader.read as read
-use Rattle.object.proofs.reader.read.Symbol as read-def
-use Rattle.object.proofs.reader.read.Symbol.{name as #object·read}
-use Rattle.object.proofs.reader.read.Met as read-thm
+use Rattle.object.proofs.reader.Reader.new as new
+use Rattle.object.proofs.reader.Reader.new.Symbol as new-def
+use Rattle.object.proofs.reader.Reader.new.Symbol.{name as #object·new}
+use Rattle.object.proofs.reader.Reader.new.Met as new-thm
+use Rattle.object.proofs.reader.Reader.moved as moved
+use Rattle.object.proofs.reader.Reader.moved.Symbol as moved-def
+use Rattle.object.proofs.reader.Reader.moved.Symbol.{name as #object·moved}
+use Rattle.object.proofs.reader.Reader.moved.Met as moved-thm
+use Rattle.object.proofs.reader.Reader.read as read
+use Rattle.object.proofs.reader.Reader.read.Symbol as read-def
+use Rattle.object.proofs.reader.Reader.read.Symbol.{name as #object·read}
+use Rattle.object.proofs.reader.Reader.read.Met as read-thm
 use Rattle.object.proofs.reader.field_from.Key.{name as #object·field-from}
 use Rattle.object.proofs.reader.field_from as from-at
 use Rattle.object.proofs.reader.field_from.Statement as stated
@@ -196,6 +196,6 @@ field-from-spec 𝓤 H 𝓜 𝓖 𝓡 =
     entered 𝓤 H (tripleOf 𝓤 H (𝓖 .A) from-at.signature (from-at.spec 𝓤 H (𝓖 .A) (𝓜 .mem) (𝓡 .run)))
     (tables 𝓤 H 𝓜 𝓡 code.env .C) (tables 𝓤 H 𝓜 𝓡 code.env .Λ) #object·field-from code.function (code.unfolded 𝓤 H 𝓜 𝓡)
     (field-from-meets 𝓤 H (𝓖 .A) (givenOf 𝓤 H 𝓜 𝓖) (𝓜 .mem) (𝓡 .run) (tablesOf 𝓤 H 𝓜 (tables 𝓤 H 𝓜 𝓡 code.env))
-    (cited 𝓤 H (New 𝓤 H (𝓖 .A) (𝓜 .mem) (𝓡 .run)) 𝓜 𝓡 code.env #object·new new-def.routine code.calls-object·reader·new (new-thm.met 𝓤 H 𝓜 𝓖 𝓡))
-    (cited 𝓤 H (Moved 𝓤 H (𝓖 .A) (𝓜 .mem) (𝓡 .run)) 𝓜 𝓡 code.env #object·moved moved-def.routine code.calls-object·reader·moved (moved-thm.met 𝓤 H 𝓜 𝓖 𝓡))
-    (cited 𝓤 H (Read 𝓤 H (𝓖 .A) (𝓜 .mem) (𝓡 .run)) 𝓜 𝓡 code.env #object·read read-def.routine code.calls-object·reader·read (read-thm.met 𝓤 H 𝓜 𝓖 𝓡)))
+    (cited 𝓤 H (New 𝓤 H (𝓖 .A) (𝓜 .mem) (𝓡 .run)) 𝓜 𝓡 code.env #object·new new-def.routine code.calls-object·reader·Reader·new (new-thm.met 𝓤 H 𝓜 𝓖 𝓡))
+    (cited 𝓤 H (Moved 𝓤 H (𝓖 .A) (𝓜 .mem) (𝓡 .run)) 𝓜 𝓡 code.env #object·moved moved-def.routine code.calls-object·reader·Reader·moved (moved-thm.met 𝓤 H 𝓜 𝓖 𝓡))
+    (cited 𝓤 H (Read 𝓤 H (𝓖 .A) (𝓜 .mem) (𝓡 .run)) 𝓜 𝓡 code.env #object·read read-def.routine code.calls-object·reader·Reader·read (read-thm.met 𝓤 H 𝓜 𝓖 𝓡)))

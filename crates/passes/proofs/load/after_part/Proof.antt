@@ -1,73 +1,57 @@
+-- `passes::load::after_part` meets its contract: each part has its function. Assumes nothing.
 use borrow.Author.Needs.{needs}
+use mathlib.Core.Path.{_≡_, refl, sym, ap, _∙_}
+use native.Mathlib.Omega.{arith}
+use Rattle.passes.specs.Enter.{reaches-as}
+use Rattle.passes.specs.Sound.{afterPiece}
+use Rattle.passes.specs.Coming.{passFrom, afterPart}
 use Rattle.passes.proofs.load.after_part.Statement.{statement}
 use Rattle.passes.proofs.load.after_part.Tie as tie
-use Rattle.passes.proofs.load.after_part.Reads as reads
-use Rattle.passes.proofs.load.after_part.Lts as lts
-use Rattle.passes.proofs.load.moved.Reads as moved-reads
-use Rattle.passes.proofs.load.moved_on.Reads as moved-on-reads
-use Rattle.passes.proofs.load.rest.Reads as rest-reads
-use Rattle.passes.proofs.load.split_a.Reads as split-a-reads
-use Rattle.passes.proofs.load.split_row.Reads as split-row-reads
 
--- src/load.rt:247:25
 enum-told : tie.Need-enum-told
 enum-told c = search needs
 
--- src/load.rt:247:25
 moved-on-requires : tie.Need-moved-on-requires
-moved-on-requires c κs = search needs
+moved-on-requires c κs = c .before .before .pre
 
--- src/load.rt:248:23
 enum-told-2 : tie.Need-enum-told-2
 enum-told-2 c = search needs
 
--- src/load.rt:248:23
 split-row-requires : tie.Need-split-row-requires
-split-row-requires c κs = search needs
+split-row-requires c κs = c .before .before .pre
 
--- src/load.rt:249:26
 enum-told-3 : tie.Need-enum-told-3
 enum-told-3 c = search needs
 
--- src/load.rt:249:26
 split-a-requires : tie.Need-split-a-requires
-split-a-requires c κs = search needs
+split-a-requires c κs = c .before .before .pre
 
--- src/load.rt:250:26
 enum-told-4 : tie.Need-enum-told-4
 enum-told-4 c = search needs
 
--- src/load.rt:250:26
 rest-requires : tie.Need-rest-requires
-rest-requires c κs = search needs
+rest-requires c κs = c .before .before .pre
 
--- src/load.rt:251:24
 enum-told-5 : tie.Need-enum-told-5
 enum-told-5 c = search needs
 
--- src/load.rt:251:24
 moved-requires : tie.Need-moved-requires
-moved-requires c κs = search needs
+moved-requires c κs = c .before .before .pre
 
--- src/load.rt:242:1
 returns : tie.Need-returns
-returns c = ?
+returns c = rw (c .before .enum-told .given .1) (c .moved-on .ensures)
 
--- src/load.rt:242:1
 returns-2 : tie.Need-returns-2
-returns-2 c = ?
+returns-2 c = rw (c .before .enum-told2 .given .1) (c .split-row .ensures)
 
--- src/load.rt:242:1
 returns-3 : tie.Need-returns-3
-returns-3 c = ?
+returns-3 c = rw (c .before .enum-told3 .given .1) (c .split-a .ensures)
 
--- src/load.rt:242:1
 returns-4 : tie.Need-returns-4
-returns-4 c = ?
+returns-4 c = rw (c .before .enum-told4 .given .1) (c .rest .ensures)
 
--- src/load.rt:242:1
 returns-5 : tie.Need-returns-5
-returns-5 c = ?
+returns-5 c = rw (c .before .enum-told5 .given .1) (c .moved .ensures)
 
 pub after-part-spec : {M : Type 1} → statement M
 after-part-spec =

@@ -1,29 +1,38 @@
+-- `passes::load::back` meets its contract: no step back, or the sum of one row less. Assumes nothing.
 use borrow.Author.Needs.{needs}
+use mathlib.Core.Path.{_≡_, refl, sym, ap, _∙_}
+use lib.Dec.{lit≤, lit<}
+use lib.IntN.{ℤ, pos, negℤ, _+ℤ_, _-ℤ_, _*ℤ_}
+use mir.Syntax.{w64}
+use mir.Val.{toZ, ofZ}
+use Rattle.signed.specs.Diff.{up, dn, zdiff, zparts, zarith}
+use Rattle.signed.specs.Word.{rd, rdn, rk}
+use native.Mathlib.Omega.{arith}
+use Rattle.passes.specs.Comes.{within}
+use Rattle.passes.specs.Loads.{back-none, back-one}
+use borrow.Author.Tests.{eq-eqb, ne-eqb}
 use Rattle.passes.proofs.load.back.Statement.{statement}
 use Rattle.passes.proofs.load.back.Tie as tie
-use Rattle.passes.proofs.load.back.Reads as reads
-use Rattle.passes.proofs.load.back.Lts as lts
-use Rattle.passes.proofs.sums.source_address.Reads as source-address-reads
 
--- src/load.rt:92:9
 returns : tie.Need-returns
-returns c = ?
+returns c = sym (back-none (c .before .args .z) (c .before .args .odd) (c .before .args .pointer) (eq-eqb _ _ (c .if1 .taken)))
 
--- src/load.rt:94:33
 cast-source-address : tie.Need-cast-source-address
 cast-source-address c = search needs
 
--- src/load.rt:94:29
 sub-source-address : tie.Need-sub-source-address
-sub-source-address c = ?
+sub-source-address c = let h = c .before .before .pre .stride′ in rw (rdn (c .before .before .args .z .stride) (cast-source-address c .sfits)) (simp zdiff (omega zarith))
 
--- src/load.rt:94:5
+row-is : (c : tie.After-struct-known) → toZ w64 (ofZ w64 (pos 0 -ℤ toZ w64 (c .before .before .args .z .stride))) ≡ negℤ (pos (c .before .before .args .z .stride))
+row-is c = rw (rd (sub-source-address c), rdn (c .before .before .args .z .stride) (cast-source-address c .sfits)) (simp zdiff (omega zarith))
+
 source-address-requires : tie.Need-source-address-requires
-source-address-requires c κs = ?
+source-address-requires c κs = let h = c .before .before .pre .stride′ in rw (row-is c) (within 62 _ (simp zdiff (simp zparts (omega zarith))) (simp zdiff (simp zparts (omega zarith))))
 
--- src/load.rt:87:1
 returns-2 : tie.Need-returns-2
-returns-2 c = ?
+returns-2 c =
+    let a = c .before .before .before .args in
+    (rw (row-is (c .before)) at (c .source-address .ensures)) ∙ sym (back-one (a .z) (a .odd) (a .pointer) (ne-eqb _ _ (c .before .before .if1 .left)))
 
 pub back-spec : {M : Type 1} → statement M
 back-spec =

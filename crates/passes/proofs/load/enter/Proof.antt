@@ -1,21 +1,27 @@
+-- `passes::load::enter` meets its contract: the test picks the law. Assumes nothing.
 use borrow.Author.Needs.{needs}
+use Rattle.passes.specs.Enter.{enter-refused, enter-given}
+use Rattle.signed.specs.Word.{rd}
+use mathlib.Core.Path.{_≡_, refl, sym, ap, _∙_}
 use Rattle.passes.proofs.load.enter.Statement.{statement}
 use Rattle.passes.proofs.load.enter.Tie as tie
-use Rattle.passes.proofs.load.enter.Reads as reads
-use Rattle.passes.proofs.load.enter.Lts as lts
-use Rattle.passes.proofs.load.part_bad.Reads as part-bad-reads
 
--- src/load.rt:49:8
 part-bad-requires : tie.Need-part-bad-requires
 part-bad-requires c κs = search needs
 
--- src/load.rt:50:9
 returns : tie.Need-returns
-returns c = ?
+returns c =
+    let s = c .before .before in
+    let a = s .args in
+    let e = rw (rd (s .fits .rows), rd (s .fits .destination), rd (s .fits .width)) at (c .before .part-bad .ensures) in
+    enter-refused (a .k) (a .p) (a .pointer) (a .rows) (a .destination) (a .width) (s .pre .0) (s .pre .1 .0) (s .pre .1 .1) (sym e ∙ c .if1 .taken)
 
--- src/load.rt:44:1
 returns-2 : tie.Need-returns-2
-returns-2 c = ?
+returns-2 c =
+    let s = c .before .before in
+    let a = s .args in
+    let e = rw (rd (s .fits .rows), rd (s .fits .destination), rd (s .fits .width)) at (c .before .part-bad .ensures) in
+    rw (rd (s .fits .rows), rd (s .fits .destination), rd (s .fits .width)) (enter-given (a .k) (a .p) (a .pointer) (a .rows) (a .destination) (a .width) (s .pre .0) (s .pre .1 .0) (s .pre .1 .1) (sym e ∙ c .if1 .left))
 
 pub enter-spec : {M : Type 1} → statement M
 enter-spec = tie.close (tie.spec part-bad-requires returns returns-2)

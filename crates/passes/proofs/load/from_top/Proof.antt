@@ -1,93 +1,138 @@
+-- `passes::load::from_top` meets its contract: the two sums as the definition has them, and the part. Assumes nothing.
 use borrow.Author.Needs.{needs}
+use mathlib.Core.Path.{_≡_, refl, sym, ap, _∙_}
+use lib.Dec.{lit≤, lit<}
+use lib.IntN.{ℤ, pos, negℤ, _+ℤ_, _-ℤ_, _*ℤ_}
+use mir.Syntax.{w64}
+use mir.Val.{toZ, ofZ}
+use Rattle.signed.specs.Word.{rd, rdn, rk}
+use native.Mathlib.Omega.{arith}
+use Rattle.signed.specs.Diff.{up, dn, zdiff, zparts, zarith}
+use Rattle.object.specs.Range.{Within}
+use Rattle.signed.specs.Floor.{modulo, modulo-lt}
+use Prim.Native.Nat.{_<_}
+use Rattle.passes.specs.Comes.{wider, read-in, less-in, plus-in, difference-in}
+use Rattle.passes.specs.Kept.{remain-in}
+use Rattle.passes.specs.Loads.{positive, none-left}
+use Rattle.passes.specs.Enter.{reaches-as, ended-as, top-none, top-1, top-2, top-3}
 use Rattle.passes.proofs.load.from_top.Statement.{statement}
 use Rattle.passes.proofs.load.from_top.Tie as tie
-use Rattle.passes.proofs.load.from_top.Reads as reads
-use Rattle.passes.proofs.load.from_top.Lts as lts
-use Rattle.passes.proofs.load.back.Reads as back-reads
-use Rattle.passes.proofs.load.enter.Reads as enter-reads
-use Rattle.passes.proofs.load.split_row.Reads as split-row-reads
-use Rattle.passes.proofs.rows.difference.Reads as difference-reads
-use Rattle.passes.proofs.rows.less.Reads as less-reads
-use Rattle.passes.proofs.rows.plus.Reads as plus-reads
-use Rattle.passes.proofs.rows.times.Reads as times-reads
-use Rattle.passes.proofs.sums.source_address.Reads as source-address-reads
-use Rattle.signed.proofs.rem_euclid.Reads as rem-euclid-reads
 
--- src/load.rt:226:9
+remain-is : (c : tie.Start) → toZ w64 (ofZ w64 (c .args .p .walk .source .remain)) ≡ c .args .p .walk .source .remain
+remain-is c = read-in 43 _ (lit≤ tt) (remain-in (c .args .p .walk) (c .pre .0 .walk))
+
 difference-requires : tie.Need-difference-requires
-difference-requires c κs = ?
+difference-requires c κs =
+    let s = c .before .before .before .before in
+    (rw (rd (s .fits .lines)) (wider 44 60 _ (lit≤ tt) (s .pre .1)), rw (remain-is s) (wider 43 60 _ (lit≤ tt) (remain-in (s .args .p .walk) (s .pre .0 .walk))))
 
--- src/load.rt:228:9
+rows-is : (c : tie.After-difference) → toZ w64 (ofZ w64 (c .difference .result)) ≡ c .before .before .before .before .before .args .lines -ℤ c .before .before .before .before .before .args .p .walk .source .remain
+rows-is c = rk _ (c .difference .ok) ∙ (rw (rd (c .before .before .before .before .before .fits .lines), remain-is (c .before .before .before .before .before)) at (c .difference .ensures))
+
+rows-in : (s : tie.Start) → Within 45 (s .args .lines -ℤ s .args .p .walk .source .remain)
+rows-in s = difference-in 44 _ _ (s .pre .1) (wider 43 44 _ (lit≤ tt) (remain-in (s .args .p .walk) (s .pre .0 .walk)))
+
 split-row-requires : tie.Need-split-row-requires
-split-row-requires c κs = search needs
+split-row-requires c κs = c .before .before .before .before .before .before .pre .0
 
--- src/load.rt:228:9
 returns : tie.Need-returns
-returns c = ?
+returns c =
+    let s = c .before .before .before .before .before .before .before in
+    let l = s .args .lines in
+    reaches-as (top-none (s .args .p) l (none-left (l -ℤ s .args .p .walk .source .remain) (rw (rows-is (c .before .before)) at (c .before .if1 .taken)))) (omega arith) (c .split-row .ensures)
 
--- src/load.rt:230:52
 cast-source-address : tie.Need-cast-source-address
 cast-source-address c = search needs
 
--- src/load.rt:230:26
 source-address-requires : tie.Need-source-address-requires
-source-address-requires c κs = ?
+source-address-requires c κs =
+    let s = c .before .before .before .before .before .before .before in
+    let h = s .pre .0 .scaled .x-offset in
+    rw (rdn (s .args .p .scaled .«x_offset») (cast-source-address c .sfits)) (record { low = omega zarith; high = omega zarith })
 
--- src/load.rt:230:17
 enum-known-first : tie.Need-enum-known-first
 enum-known-first c = search needs
 
--- src/load.rt:231:31
 enum-told : tie.Need-enum-told
 enum-told c = search needs
 
--- src/load.rt:231:9
 returns-2 : tie.Need-returns-2
-returns-2 c = ?
+returns-2 c =
+    let s = c .before .before .before .before .before .before .before .before .before .before in
+    let l = s .args .lines in
+    let p = s .args .p in
+    ended-as _ (top-1 p l (positive (l -ℤ p .walk .source .remain) (rw (rows-is (c .before .before .before .before .before)) at (c .before .before .before .before .if1 .left))) _ refl
+    (rw (rdn (p .scaled .«x_offset») (cast-source-address (c .before .before .before) .sfits), c .enum-told .given .1) at (c .before .before .source-address .ensures)))
 
--- src/load.rt:233:9
 rem-euclid-requires : tie.Need-rem-euclid-requires
 rem-euclid-requires c κs = search needs
 
--- src/load.rt:234:28
-back-requires : tie.Need-back-requires
-back-requires c κs = search needs
+odd-is : (c : tie.After-rem-euclid) → c .rem-euclid .result ≡ modulo (c .before .before .before .before .before .before .before .before .before .before .before .before .before .args .p .walk .source .remain) 2
+odd-is c = rw (remain-is (c .before .before .before .before .before .before .before .before .before .before .before .before .before)) at (c .rem-euclid .ensures)
 
--- src/load.rt:234:17
+odd-low : (s : tie.Start) → modulo (s .args .p .walk .source .remain) 2 < 2
+odd-low s = modulo-lt (s .args .p .walk .source .remain) {m = 2} (lit< tt)
+
+back-requires : tie.Need-back-requires
+back-requires c κs = c .before .before .before .before .before .before .before .before .before .before .before .before .before .pre .0 .scaled
+
 enum-known-pointer : tie.Need-enum-known-pointer
 enum-known-pointer c = search needs
 
--- src/load.rt:235:31
 enum-told-2 : tie.Need-enum-told-2
 enum-told-2 c = search needs
 
--- src/load.rt:235:9
 returns-3 : tie.Need-returns-3
-returns-3 c = ?
+returns-3 c =
+    let s = c .before .before .before .before .before .before .before .before .before .before .before .before .before .before .before .before in
+    let l = s .args .lines in
+    let p = s .args .p in
+    ended-as _ (top-2 p l (positive (l -ℤ p .walk .source .remain) (rw (rows-is (c .before .before .before .before .before .before .before .before .before .before .before)) at (c .before .before .before .before .before .before .before .before .before .before .if1 .left))) _ (odd-is (c .before .before .before)) _
+    (rw (rdn (p .scaled .«x_offset») (cast-source-address (c .before .before .before .before .before .before .before .before .before) .sfits), c .before .before .before .before .before .before .first .given .1) at (c .before .before .before .before .before .before .before .before .source-address .ensures)) (rw (c .enum-told2 .given .1) at (c .before .before .back .ensures)))
 
--- src/load.rt:237:29
 less-requires : tie.Need-less-requires
-less-requires c κs = ?
+less-requires c κs =
+    let s = c .before .before .before .before .before .before .before .before .before .before .before .before .before .before .before .before .before .before in
+    (rw (remain-is s) (wider 43 61 _ (lit≤ tt) (remain-in (s .args .p .walk) (s .pre .0 .walk))), omega (arith, odd-is (c .before .before .before .before .before), odd-low s))
 
--- src/load.rt:237:9
+even-is : (c : tie.After-less) → toZ w64 (ofZ w64 (c .less .result)) ≡ c .before .before .before .before .before .before .before .before .before .before .before .before .before .before .before .before .before .before .before .args .p .walk .source .remain -ℤ pos (c .before .before .before .before .before .before .rem-euclid .result)
+even-is c = rk _ (c .less .ok) ∙ (rw (remain-is (c .before .before .before .before .before .before .before .before .before .before .before .before .before .before .before .before .before .before .before)) at (c .less .ensures))
+
 times-requires : tie.Need-times-requires
-times-requires c κs = ?
+times-requires c κs =
+    let s = c .before .before .before .before .before .before .before .before .before .before .before .before .before .before .before .before .before .before .before in
+    let h = s .pre .0 .scaled .line′ in
+    (rw (even-is c) (wider 44 45 _ (lit≤ tt) (less-in 43 _ (c .before .before .before .before .before .before .rem-euclid .result) (remain-in (s .args .p .walk) (s .pre .0 .walk)) (omega (arith, odd-is (c .before .before .before .before .before .before), odd-low s)))), omega arith)
 
--- src/load.rt:238:32
+place-is : (c : tie.After-times) → toZ w64 (ofZ w64 (c .times .result)) ≡ (c .before .before .before .before .before .before .before .before .before .before .before .before .before .before .before .before .before .before .before .before .args .p .walk .source .remain -ℤ pos (c .before .before .before .before .before .before .before .rem-euclid .result)) *ℤ pos (c .before .before .before .before .before .before .before .before .before .before .before .before .before .before .before .before .before .before .before .before .args .p .scaled .line)
+place-is c = rk _ (c .times .ok) ∙ (rw (even-is (c .before)) at (c .times .ensures))
+
 plus-requires : tie.Need-plus-requires
-plus-requires c κs = ?
+plus-requires c κs = let s = c .before .before .before .before .before .before .before .before .before .before .before .before .before .before .before .before .before .before .before .before in (rw (rows-is (c .before .before .before .before .before .before .before .before .before .before .before .before .before .before .before)) (wider 45 61 _ (lit≤ tt) (rows-in s)), omega (arith, odd-is (c .before .before .before .before .before .before .before), odd-low s))
 
--- src/load.rt:238:62
+count-is : (c : tie.After-plus) → toZ w64 (ofZ w64 (c .plus .result)) ≡ c .before .before .before .before .before .before .before .before .before .before .before .before .before .before .before .before .before .before .before .before .before .args .lines -ℤ c .before .before .before .before .before .before .before .before .before .before .before .before .before .before .before .before .before .before .before .before .before .args .p .walk .source .remain +ℤ pos (c .before .before .before .before .before .before .before .before .rem-euclid .result)
+count-is c = rk _ (c .plus .ok) ∙ (rw (rows-is (c .before .before .before .before .before .before .before .before .before .before .before .before .before .before .before .before)) at (c .plus .ensures))
+
 cast-enter : tie.Need-cast-enter
-cast-enter c = ?
+cast-enter c = let h = c .before .before .before .before .before .before .before .before .before .before .before .before .before .before .before .before .before .before .before .before .before .before .pre .0 .scaled .line′ in record { sfits = omega arith }
 
--- src/load.rt:238:5
+line-in : (s : tie.Start) → Within 47 (pos (s .args .p .scaled .line))
+line-in s = let h = s .pre .0 .scaled .line′ in record { low = omega zarith; high = omega zarith }
+
 enter-requires : tie.Need-enter-requires
-enter-requires c κs = ?
+enter-requires c κs =
+    let s = c .before .before .before .before .before .before .before .before .before .before .before .before .before .before .before .before .before .before .before .before .before .before in
+    (s .pre .0, (rw (count-is (c .before)) (wider 46 47 _ (lit≤ tt) (plus-in 45 _ (c .before .before .before .before .before .before .before .before .before .rem-euclid .result) (rows-in s) (omega (arith, odd-is (c .before .before .before .before .before .before .before .before .before), odd-low s)))), rw (rdn (s .args .p .scaled .line) (cast-enter c .sfits)) (line-in s)))
 
--- src/load.rt:218:1
 returns-4 : tie.Need-returns-4
-returns-4 c = ?
+returns-4 c =
+    let s = c .before .before .before .before .before .before .before .before .before .before .before .before .before .before .before .before .before .before .before .before .before .before .before in
+    let l = s .args .lines in
+    let p = s .args .p in
+    reaches-as
+    (top-3 p l (positive (l -ℤ p .walk .source .remain) (rw (rows-is (c .before .before .before .before .before .before .before .before .before .before .before .before .before .before .before .before .before .before)) at (c .before .before .before .before .before .before .before .before .before .before .before .before .before .before .before .before .before .if1 .left))) _ (odd-is (c .before .before .before .before .before .before .before .before .before .before)) _
+    (rw (rdn (p .scaled .«x_offset») (cast-source-address (c .before .before .before .before .before .before .before .before .before .before .before .before .before .before .before .before) .sfits), c .before .before .before .before .before .before .before .before .before .before .before .before .before .first .given .1) at (c .before .before .before .before .before .before .before .before .before .before .before .before .before .before .before .source-address .ensures)) _ (rw (c .before .before .before .before .before .before .before .pointer .given .1) at (c .before .before .before .before .before .before .before .before .before .back .ensures)))
+    (omega arith) (rw (count-is (c .before .before), place-is (c .before .before .before), rdn (p .scaled .line) (cast-enter (c .before) .sfits)) at (c .enter .ensures))
 
 pub from-top-spec : {M : Type 1} → statement M
 from-top-spec =

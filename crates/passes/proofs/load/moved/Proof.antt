@@ -1,29 +1,38 @@
+-- `passes::load::moved` meets its contract: the move is the definition's, and the law has the rest. Assumes nothing.
 use borrow.Author.Needs.{needs}
+use mathlib.Core.Path.{_≡_, refl, sym, ap, _∙_}
+use lib.Dec.{lit≤, lit<}
+use Rattle.signed.specs.Word.{rd, rdn, rk}
+use Rattle.passes.specs.Comes.{wider, read-in}
+use Rattle.passes.specs.Kept.{remain-in, rows-in}
+use Rattle.passes.specs.Enter.{moved-to, moved-refused}
 use Rattle.passes.proofs.load.moved.Statement.{statement}
 use Rattle.passes.proofs.load.moved.Tie as tie
-use Rattle.passes.proofs.load.moved.Reads as reads
-use Rattle.passes.proofs.load.moved.Lts as lts
-use Rattle.passes.proofs.sums.advance.Reads as advance-reads
 
--- src/load.rt:104:11
 advance-requires : tie.Need-advance-requires
-advance-requires c κs = ?
+advance-requires c κs =
+    let s = c .before .before .before in
+    let p = s .args .p in
+    let w = rows-in p (s .pre) in
+    (s .pre .scaled, (wider 43 44 _ (lit≤ tt) (remain-in (p .walk) (s .pre .walk)), rw (read-in 43 (p .rows) (lit≤ tt) w) (wider 43 44 _ (lit≤ tt) w)))
 
--- src/load.rt:105:43
 enum-told : tie.Need-enum-told
 enum-told c = search needs
 
--- src/load.rt:106:19
 enum-known-next : tie.Need-enum-known-next
 enum-known-next c = search needs
 
--- src/load.rt:98:1
 returns : tie.Need-returns
-returns c = ?
+returns c =
+    let s = c .before .before .before .before .before .before in
+    let p = s .args .p in
+    moved-refused p (s .pre) (rw (read-in 43 (p .rows) (lit≤ tt) (rows-in p (s .pre)), c .enum-told .given .1) at (c .before .before .advance .ensures))
 
--- src/load.rt:98:1
 returns-2 : tie.Need-returns-2
-returns-2 c = ?
+returns-2 c =
+    let s = c .before .before .before .before .before .before .before in
+    let p = s .args .p in
+    moved-to p (s .pre) _ (rw (read-in 43 (p .rows) (lit≤ tt) (rows-in p (s .pre)), c .before .next .given .1) at (c .before .before .before .advance .ensures))
 
 pub moved-spec : {M : Type 1} → statement M
 moved-spec = tie.close (tie.spec advance-requires enum-told enum-known-next returns returns-2)

@@ -1,4 +1,4 @@
--- `object::reader::new` meets its contract: a walk of its MIR, by hand. A `Reader` is made of the slice passed and 0, in the result's local.
+-- `object::reader::Reader::new` meets its contract: a walk of its MIR, by hand. A `Reader` is made of the slice passed and 0, in the result's local.
 -- A `&[u8]` is Copy, so what it owns is had twice: once for src at exit, and once inside the result, beside the facts of at.
 -- Assumes nothing.
 use mathlib.Core.Path.{refl}
@@ -38,10 +38,10 @@ use denote.Exit.{yes}
 use Rattle.object.specs.declared.reader.Reader.{Reader}
 use Rattle.object.proofs.reader.Reader as T
 use Rattle.object.proofs.reader.Reader.Laws as T′
-use Rattle.object.proofs.reader.new.Key.{name as #object·new}
-use Rattle.object.proofs.reader.new as new
-use Rattle.object.proofs.reader.new.Statement as stated
-use Rattle.object.proofs.reader.new.Code as code
+use Rattle.object.proofs.reader.Reader.new.Key.{name as #object·new}
+use Rattle.object.proofs.reader.Reader.new as new
+use Rattle.object.proofs.reader.Reader.new.Statement as stated
+use Rattle.object.proofs.reader.Reader.new.Code as code
 
 abbrev stayed : Stays (new.ended .signature .params) (new.ended .kept)
 stayed = (stay-none-slice (0 ∷ []) tt (plain (λ _. u8)) yes, tt)

@@ -1,4 +1,4 @@
--- `object::reader::read` meets its contract: a walk of its MIR, by hand. The struct is taken apart, and `big_endian` is called on the slice and the numbers. All that the proof knows of `big_endian` is that it meets its contract.
+-- `object::reader::Reader::read` meets its contract: a walk of its MIR, by hand. The struct is taken apart, and `big_endian` is called on the slice and the numbers. All that the proof knows of `big_endian` is that it meets its contract.
 -- The struct is Copy: what it owns is had twice, one copy is kept whole for the exit, and of the other what src owns goes to the callee, beside the lifetime's token, which comes back.
 -- Assumes nothing.
 use mathlib.Core.Path.{_≡_, refl}
@@ -50,10 +50,10 @@ use Rattle.object.proofs.reader.big_endian as big-endian
 use Rattle.object.proofs.reader.big_endian.Symbol as big-endian-def
 use Rattle.object.proofs.reader.big_endian.Symbol.{name as #object·big-endian}
 use Rattle.object.proofs.reader.big_endian.Met as big-endian-thm
-use Rattle.object.proofs.reader.read.Key.{name as #object·read}
-use Rattle.object.proofs.reader.read as read
-use Rattle.object.proofs.reader.read.Statement as stated
-use Rattle.object.proofs.reader.read.Code as code
+use Rattle.object.proofs.reader.Reader.read.Key.{name as #object·read}
+use Rattle.object.proofs.reader.Reader.read as read
+use Rattle.object.proofs.reader.Reader.read.Statement as stated
+use Rattle.object.proofs.reader.Reader.read.Code as code
 
 -- the struct's type, over the signature's lifetimes
 abbrev B : Lfts 1 → RattleType

@@ -1,4 +1,4 @@
--- `object::reader::moved` meets its contract: a walk of its MIR, by hand. A struct is made anew of the slice that the one passed holds, and another number.
+-- `object::reader::Reader::moved` meets its contract: a walk of its MIR, by hand. A struct is made anew of the slice that the one passed holds, and another number.
 -- The struct is Copy: what it owns is had twice, one copy is kept whole for the exit, and the other, with the facts of the number in the place of at's, is what the result owns.
 -- Assumes nothing.
 use mathlib.Core.Path.{refl}
@@ -37,10 +37,10 @@ use denote.Exit.{yes}
 use Rattle.object.specs.declared.reader.Reader.{Reader}
 use Rattle.object.proofs.reader.Reader as T
 use Rattle.object.proofs.reader.Reader.Laws as T′
-use Rattle.object.proofs.reader.moved.Key.{name as #object·moved}
-use Rattle.object.proofs.reader.moved as moved
-use Rattle.object.proofs.reader.moved.Statement as stated
-use Rattle.object.proofs.reader.moved.Code as code
+use Rattle.object.proofs.reader.Reader.moved.Key.{name as #object·moved}
+use Rattle.object.proofs.reader.Reader.moved as moved
+use Rattle.object.proofs.reader.Reader.moved.Statement as stated
+use Rattle.object.proofs.reader.Reader.moved.Code as code
 
 -- the struct's type, over the signature's lifetimes
 abbrev B : Lfts 1 → RattleType

@@ -1,0 +1,22 @@
+-- `scaled::first::rows_left` meets its contract. Assumes nothing.
+use borrow.Author.Needs.{needs}
+use Prim.Native.Nat.{_/_}
+use Rattle.signed.specs.Diff.{zdiff, zarith}
+use Rattle.signed.specs.Word.{rd, rdn}
+use Rattle.scaled.proofs.first.rows_left.Statement.{statement}
+use Rattle.scaled.proofs.first.rows_left.Tie as tie
+
+cast-result : tie.Need-cast-result
+cast-result c = search needs
+
+cast-result-2 : tie.Need-cast-result-2
+cast-result-2 c = search needs
+
+sub-result : tie.Need-sub-result
+sub-result c = rw (rdn (c .args .image-rows) (cast-result c .sfits), rdn (c .args .image-hidden / 1024) (cast-result-2 c .sfits)) (simp zdiff (omega zarith))
+
+returns : tie.Need-returns
+returns c = rw (rd (sub-result c), rdn (c .args .image-rows) (cast-result c .sfits), rdn (c .args .image-hidden / 1024) (cast-result-2 c .sfits))
+
+pub rows-left-spec : {M : Type 1} → statement M
+rows-left-spec = tie.close (tie.spec cast-result cast-result-2 sub-result returns)

@@ -1,0 +1,107 @@
+-- What the set-up of a scaled plan takes and promises: each result is its definition's, in a range.
+-- Assumes nothing.
+use mathlib.Core.Bool.{false}
+use mathlib.Core.Path.{_≡_}
+use Prim.Native.Nat.{ℕ, _^_, _≤_, _<_}
+use lib.IntN.{ℤ, pos, negℤ}
+use lib.Signed.{_≤ℤ_}
+use mir.Syntax.{w32, w64}
+use mir.Val.{SFits, toZ, ofZ}
+use mir.ValLaws.{toZ-ofZ}
+use Rattle.signed.specs.Diff.{up, zarith}
+use Rattle.object.specs.declared.types.ObjBg.{ObjBg}
+use Rattle.object.specs.declared.types.Scissor.{Scissor}
+use Rattle.object.specs.Measure.{quarters, inImage}
+use Rattle.object.specs.Range.{Below, Within, InRange, PassedScaled}
+use Rattle.plan.specs.declared.types.Clip.{Clip}
+use Rattle.plan.specs.declared.types.Start.{Start}
+use Rattle.plan.specs.declared.types.Scaled.{Scaled}
+use Rattle.plan.specs.declared.types.First.{First}
+use Rattle.plan.specs.Scaled.{clipOf, scaledEmpty, startOf, scaledOf, slicesBad, firstOf}
+use Rattle.plan.specs.Sound.{SoundScaled, SoundFirst}
+
+-- an object that passed the checks, whatever the scissor
+pub record Usable (bg : ObjBg) : Type 0 where
+  pub range : InRange bg
+  pub siz : bg .«image_siz» ≤ 3
+  pub fmt : bg .«image_fmt» ≤ 4
+  pub image-w : 1 ≤ quarters (bg .«image_w»)
+  pub image-h : 1 ≤ quarters (bg .«image_h»)
+  pub scale-w : 1 ≤ bg .«scale_w» .0
+  pub scale-h : 1 ≤ bg .«scale_h» .0
+
+pub usable : {bg : ObjBg} {s : Scissor} → PassedScaled bg s → Usable bg
+usable p = record {
+  range = p .passed .range;
+  siz = p .passed .siz;
+  fmt = p .passed .fmt;
+  image-w = p .passed .image-w;
+  image-h = p .passed .image-h;
+  scale-w = p .scale-w;
+  scale-h = p .scale-h;
+}
+
+-- a clip that is not empty
+pub record Filled (c : Clip) : Type 0 where
+  pub left : c .left ≤ 65535
+  pub top : c .top ≤ 65535
+  pub right : c .right ≤ 65535
+  pub x : c .x ≤ 4092
+  pub y : c .y ≤ 4092
+  pub width : 1 ≤ c .width
+  pub width′ : c .width ≤ 4092
+  pub height : 1 ≤ c .height
+  pub height′ : c .height ≤ 4092
+
+pub record ClipIs (bg : ObjBg) (s : Scissor) (c : Clip) : Type 0 where
+  pub is : c ≡ clipOf bg s
+  pub filled : scaledEmpty c ≡ false → Filled c
+
+-- a start in an image
+pub record StartIn (bg : ObjBg) (i : Start) : Type 0 where
+  pub image-x : i .«image_x» < inImage (quarters (bg .«image_w»))
+  pub image-y : i .«image_y» < inImage (quarters (bg .«image_h»))
+  pub carry : i .carry ≤ 2 ^ 23
+  pub wrap : i .wrap ≤ 2 ^ 26
+  pub low : negℤ (pos (2 ^ 33)) ≤ℤ i .origin
+  pub high : i .origin ≤ℤ pos (2 ^ 33)
+
+pub record StartIs (bg : ObjBg) (c : Clip) (i : Start) : Type 0 where
+  pub is : i ≡ startOf bg c
+  pub inside : StartIn bg i
+
+pub record ScaledIs (bg : ObjBg) (mode address : ℕ) (c : Clip) (i : Start) (z : Scaled) : Type 0 where
+  pub is : z ≡ scaledOf bg mode address c i
+  pub sound : slicesBad z ≡ false → SoundScaled z
+
+-- what the first strip needs of the start
+pub record Near (i : Start) : Type 0 where
+  pub image-y : i .«image_y» ≤ 2 ^ 20
+  pub low : negℤ (pos (2 ^ 33)) ≤ℤ i .origin
+  pub high : i .origin ≤ℤ pos (2 ^ 33)
+
+pub record FirstIs (z : Scaled) (i : Start) (f : First) : Type 0 where
+  pub is : f ≡ firstOf z i
+  pub sound : SoundFirst z f
+
+-- what the fields' bits read as
+pub reads-edge : {z : ℤ} → Below 10 z → toZ w32 (ofZ w32 z) ≡ z
+reads-edge {z} r = let b : SFits w32 z = omega zarith in toZ-ofZ w32 z b
+
+pub reads15 : {z : ℤ} → Within 15 z → toZ w64 (ofZ w64 z) ≡ z
+reads15 {z} r = let b : SFits w64 z = omega zarith in toZ-ofZ w64 z b
+
+pub reads31 : {z : ℤ} → Within 31 z → toZ w64 (ofZ w64 z) ≡ z
+reads31 {z} r = let b : SFits w64 z = omega zarith in toZ-ofZ w64 z b
+
+pub edge-le : {z : ℤ} → Below 10 z → up z ≤ 1023
+edge-le {z} r = omega zarith
+
+pub extent-le : {z : ℤ} → Below 16 z → up z ≤ 65535
+extent-le {z} r = omega zarith
+
+pub reads33 : {i : Start} → Near i → toZ w64 (ofZ w64 (i .origin)) ≡ i .origin
+reads33 {i} r = let b : SFits w64 (i .origin) = omega zarith in toZ-ofZ w64 (i .origin) b
+
+pub reads49 : {z : ℤ} → negℤ (pos (2 ^ 49)) ≤ℤ z → z ≤ℤ pos (2 ^ 49) → toZ w64 (ofZ w64 z) ≡ z
+reads49 {z} l h = let b : SFits w64 z = omega zarith in toZ-ofZ w64 z b
