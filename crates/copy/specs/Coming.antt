@@ -3,7 +3,7 @@
 use mathlib.Core.Path.{_≡_, refl, sym, ap, _∙_}
 use mathlib.Core.Bool.{Bool, true, false}
 use mathlib.Core.List.{List, [], _∷_, _++_, append-assoc, append-nil}
-use Prim.Native.Nat.{ℕ, suc, _+_, _*_, _<_}
+use Prim.Native.Nat.{ℕ, _+_, _<_}
 use native.Mathlib.Omega.{arith}
 use borrow.Author.Tests.{ltb-true, lt-ltb}
 use lib.Dec.{ltb}
@@ -15,24 +15,27 @@ use Rattle.plan.specs.declared.types.Entry.{Entry}
 use Rattle.plan.specs.Out.{Out, more, _>>=_, _>>_, yield, emit, refuse, Plan, planOut}
 use Rattle.plan.specs.Out.Out.{go, stop}
 use Rattle.plan.specs.Load.{loadOut, loadTile}
-use Rattle.plan.specs.Copy.{field, stripOf, stripEntries, strip, columns, stripRow, stripHeight, rows, copyPlan}
+use Rattle.plan.specs.Copy.{field, stripEntries, strip, columns, stripRow, stripHeight, rows, copyPlan}
 use Rattle.plan.specs.Laws.{more-nil, more-more, more-bind, columns-on, columns-end, columns-fuel, rows-on, rows-end, rows-fuel}
-use Rattle.plan.specs.Next.{Next, cons, ended, Follows}
+use Rattle.plan.specs.Next.{cons, Follows}
 use Rattle.plan.specs.Sound.{SoundCopy}
 use Rattle.copy.specs.declared.types.Area.{Area}
 use Rattle.copy.specs.declared.types.Stage.{Stage}
 use Rattle.copy.specs.declared.types.Stage.the-variants as stage
 use Rattle.copy.specs.declared.types.Place.{Place}
-use Rattle.copy.specs.Walk.{placeAt, rowAt, SoundPlace, imageEntry, tileEntry, tile0Entry, sizeEntry, areaOf, requestAt, rectEntry, tile7Next, loadNext, rectNext, copyNextOf, CopyWalk, asNext}
+use Rattle.copy.specs.Walk.{placeAt, rowAt, SoundPlace, imageEntry, tileEntry, tile0Entry, sizeEntry, areaOf, requestIn, rectEntry, tooBig, tile7Next, loadNext, rectNext, copyNextOf, CopyWalk, asNext}
 
 -- ---- the tails, each written out from the definition of the plan
 
 -- the row's strips from cell x on, and the rows after the row
-unfoldable pub restFrom : Place → ℕ → Out (Unit {0})
-restFrom p x = columns (p .copy .width) (p .copy) (p .y) (p .sy) (p .«strip_height») x >> rows (p .copy .height) (p .copy) (p .y + p .«strip_height»)
+unfoldable pub restFrom : Copy → (y sy height x : ℕ) → Out (Unit {0})
+restFrom c y sy height x = columns (c .width) c y sy height x >> rows (c .height) c (y + height)
+
+abbrev pub restOf : Place → Out (Unit {0})
+restOf p = restFrom (p .copy) (p .y) (p .sy) (p .«strip_height») (p .x + p .strip .«strip_width»)
 
 unfoldable pub rectTail : Place → Out (Unit {0})
-rectTail p = emit (rectEntry p) >> restFrom p (p .x + p .strip .«strip_width»)
+rectTail p = emit (rectEntry p) >> restOf p
 
 -- the load alone
 abbrev pub loadOf : Place → Out (Unit {0})
@@ -86,11 +89,11 @@ regroup before (stop es l v) rect x k m = refl
 
 -- ---- one strip
 
-too-big : (p : Place) → ltb (p .copy .capacity) (p .strip .line * p .«strip_height») ≡ true → stripTail p ≡ refuse verdict.TooBig
+pub too-big : (p : Place) → tooBig p ≡ true → stripTail p ≡ refuse verdict.TooBig
 unfolding stripTail strip
 too-big p t = rw (t, strip)
 
-fits : (p : Place) → ltb (p .copy .capacity) (p .strip .line * p .«strip_height») ≡ false → stripTail p ≡ (emit (tileEntry p 7 0 0) >> tailOf stage.Tile0 p)
+pub fits : (p : Place) → tooBig p ≡ false → stripTail p ≡ (emit (tileEntry p 7 0 0) >> tailOf stage.Tile0 p)
 unfolding stripTail strip stripEntries tailOf loadTail rectTail restFrom
 fits p t =
     let c = p .copy in
@@ -101,29 +104,26 @@ fits p t =
 
 -- ---- the rest, where there is a strip to the right, a row below, or nothing
 
-right-tail : (p : Place) (x : ℕ) → SoundCopy (p .copy) → x < p .copy .width → restFrom p x ≡ stripTail (placeAt (p .copy) x (p .y) (p .sy) (p .«strip_height»))
+pub right-tail : (c : Copy) (y sy h x : ℕ) → SoundCopy c → x < c .width → restFrom c y sy h x ≡ stripTail (placeAt c x y sy h)
 unfolding restFrom stripTail
-right-tail p x s h =
-    let c = p .copy in
-    ap (λ (a : Out (Unit {0})). a >> rows (c .height) c (p .y + p .«strip_height»))
-    (columns-fuel (c .width) c (p .y) (p .sy) (p .«strip_height») x (s .image-width) (omega arith) ∙ columns-on (c .width) c (p .y) (p .sy) (p .«strip_height») x (lt-ltb x (c .width) h))
+right-tail c y sy h x s k =
+    ap (λ (a : Out (Unit {0})). a >> rows (c .height) c (y + h))
+    (columns-fuel (c .width) c y sy h x (s .image-width) (omega arith) ∙ columns-on (c .width) c y sy h x (lt-ltb x (c .width) k))
+
+pub row-rest : (c : Copy) (y : ℕ) → SoundCopy c → y < c .height → rows (c .height) c y ≡ restFrom c y (stripRow c y) (stripHeight c y) 0
+unfolding restFrom
+row-rest c y s h = rows-fuel (c .height) c y (s .rows) (s .image-height) (omega arith) ∙ rows-on (c .height) c y (lt-ltb y (c .height) h)
 
 row-tail : (c : Copy) (y : ℕ) → SoundCopy c → y < c .height → rows (c .height) c y ≡ stripTail (rowAt c y)
-unfolding restFrom
-row-tail c y s h =
-    rows-fuel (c .height) c y (s .rows) (s .image-height) (omega arith)
-    ∙ rows-on (c .height) c y (lt-ltb y (c .height) h)
-    ∙ right-tail (rowAt c y) 0 s (s .width)
+row-tail c y s h = row-rest c y s h ∙ right-tail c y (stripRow c y) (stripHeight c y) 0 s (s .width)
 
-below-tail : (p : Place) (x : ℕ) → ltb x (p .copy .width) ≡ false → restFrom p x ≡ rows (p .copy .height) (p .copy) (p .y + p .«strip_height»)
+pub below-tail : (c : Copy) (y sy h x : ℕ) → ltb x (c .width) ≡ false → restFrom c y sy h x ≡ rows (c .height) c (y + h)
 unfolding restFrom
-below-tail p x t =
-    let c = p .copy in
-    ap (λ (a : Out (Unit {0})). a >> rows (c .height) c (p .y + p .«strip_height»)) (columns-end (c .width) c (p .y) (p .sy) (p .«strip_height») x t) ∙ more-nil _
+below-tail c y sy h x t = ap (λ (a : Out (Unit {0})). a >> rows (c .height) c (y + h)) (columns-end (c .width) c y sy h x t) ∙ more-nil _
 
 -- ---- each step gives the first of what is to come
 
-tile7-follows : (p : Place) (t : Bool) → ltb (p .copy .capacity) (p .strip .line * p .«strip_height») ≡ t → Follows comingWalk (planOut (stripTail p)) (asNext (tile7Next t p))
+tile7-follows : (p : Place) (t : Bool) → tooBig p ≡ t → Follows comingWalk (planOut (stripTail p)) (asNext (tile7Next t p))
 unfolding tile7Next comingCopy
 tile7-follows p true e = ap planOut (too-big p e)
 tile7-follows p false e = ap planOut (fits p e) ∙ plan-more (tileEntry p 7 0 0) (tailOf stage.Tile0 p)
@@ -136,13 +136,17 @@ load-follows p a request.Overflow = refl
 rect-follows : (p : Place) → SoundCopy (p .copy) → (t u : Bool) → ltb (p .x + p .strip .«strip_width») (p .copy .width) ≡ t → ltb (p .y + p .«strip_height») (p .copy .height) ≡ u
     → Follows comingWalk (planOut (rectTail p)) (asNext (rectNext t u p))
 unfolding rectNext rectTail comingCopy tailOf
-rect-follows p s true u d e = plan-more (rectEntry p) (restFrom p (p .x + p .strip .«strip_width»)) ∙ ap (λ (a : Out (Unit {0})). cons (rectEntry p) (planOut a)) (right-tail p (p .x + p .strip .«strip_width») s (ltb-true _ _ d))
+rect-follows p s true u d e =
+    plan-more (rectEntry p) (restOf p)
+    ∙ ap (λ (a : Out (Unit {0})). cons (rectEntry p) (planOut a)) (right-tail (p .copy) (p .y) (p .sy) (p .«strip_height») (p .x + p .strip .«strip_width») s (ltb-true _ _ d))
 rect-follows p s false true d e =
-    plan-more (rectEntry p) (restFrom p (p .x + p .strip .«strip_width»))
-    ∙ ap (λ (a : Out (Unit {0})). cons (rectEntry p) (planOut a)) (below-tail p (p .x + p .strip .«strip_width») d ∙ row-tail (p .copy) (p .y + p .«strip_height») s (ltb-true _ _ e))
+    plan-more (rectEntry p) (restOf p)
+    ∙ ap (λ (a : Out (Unit {0})). cons (rectEntry p) (planOut a))
+    (below-tail (p .copy) (p .y) (p .sy) (p .«strip_height») (p .x + p .strip .«strip_width») d ∙ row-tail (p .copy) (p .y + p .«strip_height») s (ltb-true _ _ e))
 rect-follows p s false false d e =
-    plan-more (rectEntry p) (restFrom p (p .x + p .strip .«strip_width»))
-    ∙ ap (λ (a : Out (Unit {0})). cons (rectEntry p) (planOut a)) (below-tail p (p .x + p .strip .«strip_width») d ∙ rows-end (p .copy .height) (p .copy) (p .y + p .«strip_height») e)
+    plan-more (rectEntry p) (restOf p)
+    ∙ ap (λ (a : Out (Unit {0})). cons (rectEntry p) (planOut a))
+    (below-tail (p .copy) (p .y) (p .sy) (p .«strip_height») (p .x + p .strip .«strip_width») d ∙ rows-end (p .copy .height) (p .copy) (p .y + p .«strip_height») e)
 
 pub copy-follows : (s : Stage) (p : Place) → SoundPlace p → Follows comingWalk (comingCopy s p) (asNext (copyNextOf s p))
 unfolding copyNextOf comingCopy tailOf loadTail loadTile
@@ -150,7 +154,7 @@ copy-follows stage.Image p h = plan-more (imageEntry (p .copy)) (stripTail p)
 copy-follows stage.Tile7 p h = tile7-follows p _ refl
 copy-follows stage.Tile0 p h = plan-more (tile0Entry p) (emit (sizeEntry p) >> loadTail p)
 copy-follows stage.Size p h = plan-more (sizeEntry p) (loadTail p)
-copy-follows stage.Load p h = load-follows p (areaOf p) (requestAt p)
+copy-follows stage.Load p h = load-follows p (areaOf p) (requestIn (p .copy) (areaOf p))
 copy-follows stage.Rect p h = rect-follows p (h .copy) _ _ refl refl
 copy-follows stage.Done p h = refl
 

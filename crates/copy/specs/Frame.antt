@@ -2,7 +2,7 @@
 -- Assumes nothing.
 use mathlib.Core.Path.{_≡_, refl}
 use mathlib.Core.Bool.{Bool, true, false, cond, _||_, true≢false}
-use Prim.Native.Nat.{ℕ, suc, _+_, _*_, _-_, _/_, _%_, _^_, _≤_, max}
+use Prim.Native.Nat.{ℕ, _+_, _*_, _-_, _/_, _%_, _^_, _≤_, max}
 use native.Mathlib.Omega.{arith}
 use borrow.Author.Tests.{eqb-false}
 use lib.Dec.{eqb}
@@ -13,7 +13,7 @@ use Rattle.signed.specs.Cast.{minZ}
 use Rattle.object.specs.declared.types.ObjBg.{ObjBg}
 use Rattle.object.specs.declared.types.Scissor.{Scissor}
 use Rattle.object.specs.Measure.{quarters, thirtySeconds, texels, wholeTexels}
-use Rattle.object.specs.Range.{Within, Below, PassedCopy}
+use Rattle.object.specs.Range.{Within, PassedCopy}
 use Rattle.plan.specs.Request.{edge}
 use Rattle.plan.specs.declared.types.Copy.{Copy}
 use Rattle.plan.specs.Copy.{copyCapacity, copyOf, copyEmpty}
@@ -118,11 +118,11 @@ pub copy-is : (bg : ObjBg) (s : Scissor) (address : ℕ) {x y : Axis} {palette r
     → PassedCopy bg s
     → AxisIs (bg .«frame_x» .0) (quarters (bg .«frame_w»)) (edge (s .ulx)) (edge (s .lrx)) x
     → AxisIs (bg .«frame_y» .0) (quarters (bg .«frame_h»)) (edge (s .uly)) (edge (s .lry)) y
-    → AtMost (texels (quarters (bg .«image_w»))) 16383 width
-    → AtMost (texels (quarters (bg .«image_h»))) 16383 height
-    → AtMost (texels (quarters (bg .«frame_w»))) 16383 cells
-    → AtMost (wholeTexels (thirtySeconds (bg .«image_x»))) 2047 source
-    → AtMost (wholeTexels (thirtySeconds (bg .«image_y»))) 2047 row
+    → width ≡ texels (quarters (bg .«image_w»))
+    → height ≡ texels (quarters (bg .«image_h»))
+    → cells ≡ texels (quarters (bg .«frame_w»))
+    → source ≡ wholeTexels (thirtySeconds (bg .«image_x»))
+    → row ≡ wholeTexels (thirtySeconds (bg .«image_y»))
     → AtMost (bg .«tmem_h» / 4) 16383 rows
     → palette ≡ bg .«image_pal» % 2 ^ 8
     → capacity ≡ copyCapacity (bg .«image_fmt») (bg .«image_siz»)
@@ -150,4 +150,4 @@ pub copy-is : (bg : ObjBg) (s : Scissor) (address : ℕ) {x y : Axis} {palette r
     })
 unfolding copyOf axisOf
 copy-is bg s address p ax ay w h f sx sy r e q t =
-    ranged bg s address p (omega arith) (rw (ax .is, ay .is, w .is, h .is, f .is, sx .is, sy .is, r .is, e, q, t))
+    ranged bg s address p (omega arith) (rw (ax .is, ay .is, w, h, f, sx, sy, r .is, e, q, t))

@@ -18,7 +18,7 @@ use Rattle.copy.specs.declared.types.Stage.{Stage}
 use Rattle.copy.specs.declared.types.Stage.the-variants as stage
 use Rattle.copy.specs.declared.types.Place.{Place}
 use Rattle.copy.specs.Strip.{Rows, strip-bounds, height-in}
-use Rattle.copy.specs.Walk.{placeAt, rowAt, SoundPlace, areaOf, requestAt, tile7Next, loadNext, rectNext, copyNextOf, CopyWalk, asNext}
+use Rattle.copy.specs.Walk.{placeAt, rowAt, SoundPlace, areaOf, requestIn, tile7Next, loadNext, rectNext, copyNextOf, CopyWalk, asNext}
 
 -- the cells from here on, in rows of 1,024, of which a strip takes at least one for its five entries
 abbrev pub cellsLeft : Place → ℕ
@@ -45,7 +45,7 @@ Kept left (over l v) = Unit {0}
 
 -- ---- where the walk comes to
 
-place-sound : (c : Copy) (x y sy h : ℕ) → SoundCopy c → x < c .width → y < c .height → Rows c y sy h → SoundPlace (placeAt c x y sy h)
+pub place-sound : (c : Copy) (x y sy h : ℕ) → SoundCopy c → x < c .width → y < c .height → Rows c y sy h → SoundPlace (placeAt c x y sy h)
 place-sound c x y sy h s k l r = record { copy = s; x = k; y = l; rows = r; strip = strip-bounds c x s k }
 
 pub row-sound : (c : Copy) (y : ℕ) → SoundCopy c → y < c .height → SoundPlace (rowAt c y)
@@ -101,7 +101,7 @@ copy-kept stage.Size p h = same stage.Size stage.Load p h (size p h)
   where
     size : (p : Place) → SoundPlace p → leftCopy stage.Load p < leftCopy stage.Size p
     size p h = let s = h .copy in omega arith
-copy-kept stage.Load p h = loaded p (areaOf p) (requestAt p) h
+copy-kept stage.Load p h = loaded p (areaOf p) (requestIn (p .copy) (areaOf p)) h
 copy-kept stage.Rect p h = rect p h _ _ refl refl
 copy-kept stage.Done p h = tt
 

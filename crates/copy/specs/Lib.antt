@@ -4,3 +4,4 @@ pub mod Strip
 pub mod Walk
 pub mod Coming
 pub mod Kept
+pub mod Count

@@ -1,8 +1,8 @@
 -- One step of the copy walk: the entry that is due, and where the walk stands after it.
 -- Assumes nothing.
 use mathlib.Core.Bool.{Bool, true, false, cond}
-use mathlib.Core.List.{List, [], _∷_}
-use Prim.Native.Nat.{ℕ, _+_, _-_, _*_, _%_, _^_, _≤_, _<_}
+use mathlib.Core.List.{[], _∷_}
+use Prim.Native.Nat.{ℕ, _+_, _-_, _*_, _%_, _^_, _<_}
 use lib.Dec.{ltb}
 use lib.IntN.{ℤ, pos, negℤ, _*ℤ_}
 use Rattle.signed.specs.Cast.{i16}
@@ -11,7 +11,6 @@ use Rattle.tile.specs.declared.load.LoadRequest.{LoadRequest}
 use Rattle.tile.specs.declared.load.LoadRequest.the-variants as request
 use Rattle.tile.specs.Load.{requestOf}
 use Rattle.plan.specs.declared.types.Copy.{Copy}
-use Rattle.plan.specs.declared.types.Strip.{Strip}
 use Rattle.plan.specs.declared.types.Entry.{Entry}
 use Rattle.plan.specs.declared.types.Entry.the-variants as entry
 use Rattle.plan.specs.Copy.{field, bound, stripOf, stripRow, stripHeight}
@@ -68,8 +67,8 @@ areaOf p =
       lrt = bound (p .sy + p .«strip_height» - 1);
     }
 
-abbrev pub requestAt : Place → LoadRequest
-requestAt p = let a = areaOf p in requestOf (p .copy .siz) (field (p .copy)) (p .copy .address) (a .uls) (a .ult) (a .lrs) (a .lrt)
+abbrev pub requestIn : Copy → Area → LoadRequest
+requestIn c a = requestOf (c .siz) (field c) (c .address) (a .uls) (a .ult) (a .lrs) (a .lrt)
 
 -- R 531 `if flip { -load_width } else { offset } * 32`
 abbrev pub firstTexel : Bool → (load-width offset : ℕ) → ℤ
@@ -84,6 +83,9 @@ rectEntry p =
 -- ---- the answers, by stage
 
 -- D 7 "a copy strip's line × height exceeds capacity"
+abbrev pub tooBig : Place → Bool
+tooBig p = ltb (p .copy .capacity) (p .strip .line * p .«strip_height»)
+
 unfoldable pub tile7Next : Bool → Place → CopyNext
 tile7Next true p = next.TooBig
 tile7Next false p = next.Entry (tileEntry p 7 0 0) stage.Tile0 p
@@ -101,10 +103,10 @@ rectNext false false p = next.Entry (rectEntry p) stage.Done p
 
 unfoldable pub copyNextOf : Stage → Place → CopyNext
 copyNextOf stage.Image p = next.Entry (imageEntry (p .copy)) stage.Tile7 p
-copyNextOf stage.Tile7 p = tile7Next (ltb (p .copy .capacity) (p .strip .line * p .«strip_height»)) p
+copyNextOf stage.Tile7 p = tile7Next (tooBig p) p
 copyNextOf stage.Tile0 p = next.Entry (tile0Entry p) stage.Size p
 copyNextOf stage.Size p = next.Entry (sizeEntry p) stage.Load p
-copyNextOf stage.Load p = loadNext (requestAt p) (areaOf p) p
+copyNextOf stage.Load p = loadNext (requestIn (p .copy) (areaOf p)) (areaOf p) p
 copyNextOf stage.Rect p = rectNext (ltb (p .x + p .strip .«strip_width») (p .copy .width)) (ltb (p .y + p .«strip_height») (p .copy .height)) p
 copyNextOf stage.Done p = next.Finished
 

@@ -4,33 +4,16 @@ ghost use Prim.Native.Nat.{_*_, _/_, _^_, _≤_, max};
 ghost use lib.IntN.{pos, _+ℤ_, _-ℤ_};
 ghost use Rattle.signed.specs.Diff.{up};
 ghost use Rattle.signed.specs.Cast.{minZ};
-ghost use Rattle.object.specs.Measure.{quarters, thirtySeconds, texels, wholeTexels};
+ghost use Rattle.object.specs.Measure.{quarters, texels};
 ghost use Rattle.object.specs.Range.{Below, Within, PassedCopy};
 ghost use Rattle.plan.specs.Request.{edge};
-ghost use Rattle.plan.specs.Copy.{copyOf, copyEmpty};
+ghost use Rattle.plan.specs.Copy.{copyEmpty};
 ghost use Rattle.copy.specs.Frame.{AtMost, AxisIs, CopyIs};
 use crate::types::Axis;
 use object::ObjBg;
 use object::Quarters;
 use object::Scissor;
-use object::ThirtySeconds;
 use plan::Copy;
-
-// Whole texels of a width or a height.
-fn texels_in(q: Quarters) -> u64
-    requires { ⌜ Below 16 (q .0) ⌝ }
-    ensures { λ r. ⌜ AtMost (texels (quarters q)) 16383 r ⌝ }
-{
-    signed::positive(q.0) / 4
-}
-
-// Whole texels of an image position.
-fn texels_at(t: ThirtySeconds) -> u64
-    requires { ⌜ Below 16 (t .0) ⌝ }
-    ensures { λ r. ⌜ AtMost (wholeTexels (thirtySeconds t)) 2047 r ⌝ }
-{
-    signed::positive(t.0) / 32
-}
 
 // A scissor edge in units.
 fn edge_of(z: i32) -> u64
@@ -80,13 +63,13 @@ fn axis_of(frame: Quarters, size: Quarters, low: i32, high: i32) -> Axis
     ensures { λ r. ⌜ AxisIs (frame .0) (quarters size) (edge low) (edge high) r ⌝ }
 {
     let edge = near(frame.0, edge_of(low));
-    let cells = cells_in(frame.0, signed::positive(size.0), edge_of(high), edge);
+    let cells = cells_in(frame.0, object::quarters(size), edge_of(high), edge);
     let skip = cells_before(frame.0, edge);
     Axis { edge, cells, skip }
 }
 
 // The texels in a word of texture memory: 16, 8, 4 or 2.
-pub fn texels_per_word(siz: u8) -> u64
+fn texels_per_word(siz: u8) -> u64
     requires { ⌜ siz ≤ 3 ⌝ }
     ensures { λ r. ⌜ r ≡ 16 / 2 ^ siz ⌝ }
 {
@@ -111,11 +94,11 @@ pub fn copy_of(bg: ObjBg, scissor: Scissor, address: u64) -> Copy
 {
     let across = axis_of(bg.frame_x, bg.frame_w, scissor.ulx, scissor.lrx);
     let down = axis_of(bg.frame_y, bg.frame_h, scissor.uly, scissor.lry);
-    let image_width = texels_in(bg.image_w);
-    let image_height = texels_in(bg.image_h);
-    let frame_cells = texels_in(bg.frame_w);
-    let source_x = texels_at(bg.image_x);
-    let source_y = texels_at(bg.image_y) + down.skip;
+    let image_width = object::texels(bg.image_w);
+    let image_height = object::texels(bg.image_h);
+    let frame_cells = object::texels(bg.frame_w);
+    let source_x = object::whole_texels(bg.image_x);
+    let source_y = object::whole_texels(bg.image_y) + down.skip;
     let capacity = capacity::copy_capacity(bg.image_fmt, bg.image_siz);
     let texels_per_word = texels_per_word(bg.image_siz);
     let palette = signed::low8(bg.image_pal);

@@ -1,11 +1,9 @@
 // The copy walk, one entry a step: the texture image, then a strip's five entries, strip after strip.
 ghost use mathlib.Core.Path.{_≡_};
-ghost use mathlib.Core.Bool.{cond};
 ghost use Prim.Native.Nat.{_+_, _-_, _*_, _%_, _^_, _≤_, _<_};
 ghost use Rattle.plan.specs.Copy.{field, bound};
 ghost use Rattle.plan.specs.Sound.{SoundCopy};
-ghost use Rattle.copy.specs.Strip.{Rows};
-ghost use Rattle.copy.specs.Walk.{placeAt, rowAt, SoundPlace, imageEntry, tileEntry, tile0Entry, sizeEntry, areaOf, firstTexel, rectEntry, loadNext, copyNextOf};
+ghost use Rattle.copy.specs.Walk.{placeAt, rowAt, SoundPlace, imageEntry, tileEntry, tile0Entry, sizeEntry, areaOf, requestIn, firstTexel, rectEntry, tooBig, loadNext, copyNextOf};
 ghost use Rattle.copy.specs.declared.types.Stage.the-variants as stage;
 use crate::strip::strip_height;
 use crate::strip::strip_of;
@@ -19,7 +17,7 @@ use plan::Entry;
 use tile::LoadRequest;
 
 // At cell x of the row of strips at line y.
-fn place_at(c: Copy, x: u64, y: u64, sy: u64, strip_height: u64) -> Place
+pub fn place_at(c: Copy, x: u64, y: u64, sy: u64, strip_height: u64) -> Place
     requires { ⌜ SoundCopy c ⌝ }
     requires { ⌜ x < c .width ⌝ }
     ensures { λ r. ⌜ r ≡ placeAt c x y sy «strip_height» ⌝ }
@@ -129,7 +127,7 @@ fn size_entry(p: Place) -> Entry
     }
 }
 
-fn area_of(p: Place) -> Area
+pub fn area_of(p: Place) -> Area
     requires { ⌜ SoundPlace p ⌝ }
     ensures { λ r. ⌜ r ≡ areaOf p ⌝ }
 {
@@ -184,14 +182,21 @@ fn rect_entry(p: Place) -> Entry
     }
 }
 
-// Tile 7 is due: the strip must fit texture memory.
+// The strip does not fit texture memory.
+pub fn too_big(p: Place) -> bool
+    requires { ⌜ SoundPlace p ⌝ }
+    ensures { λ r. ⌜ r ≡ tooBig p ⌝ }
+{
+    let c = p.copy;
+    let s = p.strip;
+    c.capacity < s.line * p.strip_height
+}
+
 fn tile7_next(p: Place) -> CopyNext
     requires { ⌜ SoundPlace p ⌝ }
     ensures { λ r. ⌜ r ≡ copyNextOf stage.Tile7 p ⌝ }
 {
-    let c = p.copy;
-    let s = p.strip;
-    if c.capacity < s.line * p.strip_height {
+    if too_big(p) {
         return CopyNext::TooBig;
     }
     let entry = tile_entry(p, 7, 0, 0);
@@ -237,14 +242,21 @@ fn loaded(request: LoadRequest, a: Area, p: Place) -> CopyNext
     }
 }
 
+// What a load with these bounds asks for.
+pub fn request_in(c: Copy, a: Area) -> LoadRequest
+    requires { ⌜ SoundCopy c ⌝ }
+    ensures { λ r. ⌜ r ≡ requestIn c a ⌝ }
+{
+    let width = width_field(c.image_width);
+    tile::load_request(c.siz, width, c.address, a.uls, a.ult, a.lrs, a.lrt)
+}
+
 fn load_next(p: Place) -> CopyNext
     requires { ⌜ SoundPlace p ⌝ }
     ensures { λ r. ⌜ r ≡ copyNextOf stage.Load p ⌝ }
 {
-    let c = p.copy;
     let a = area_of(p);
-    let width = width_field(c.image_width);
-    let request = tile::load_request(c.siz, width, c.address, a.uls, a.ult, a.lrs, a.lrt);
+    let request = request_in(p.copy, a);
     loaded(request, a, p)
 }
 

@@ -1,9 +1,9 @@
 -- The laws of the checks, for callers: what is known of a decoded object, and of a request that passed.
 -- Assumes nothing.
-use mathlib.Core.Path.{_≡_, refl, sym, ap, _∙_, subst}
-use mathlib.Core.Bool.{Bool, true, false, not, cond, _||_, true≢false}
+use mathlib.Core.Path.{_≡_, refl, sym, subst}
+use mathlib.Core.Bool.{Bool, true, false, cond, _||_, true≢false}
 use mathlib.Core.List.{List, [], _∷_}
-use Prim.Native.Nat.{ℕ, _+_, _≤_, _<_, _^_, max}
+use Prim.Native.Nat.{ℕ, _+_, _≤_, _<_, max}
 use native.Mathlib.Omega.{arith}
 use borrow.Author.Tests.{ltb-false, eqb-false}
 use lib.Dec.{eqb}
@@ -12,7 +12,7 @@ use lib.Signed.{ltZ}
 use mir.Syntax.{w16, w32}
 use mir.Val.{toZ}
 use mir.ValLaws.{toZ-fits}
-use Rattle.signed.specs.Diff.{zdiff, zarith}
+use Rattle.signed.specs.Diff.{zarith}
 use Rattle.object.specs.declared.types.ObjBg.{ObjBg}
 use Rattle.object.specs.declared.types.Scissor.{Scissor}
 use Rattle.object.specs.declared.types.Verdict.{Verdict}
@@ -76,9 +76,29 @@ falses (t ∷ ts) e = let h = either t (any ts) e in (h .0, falses ts (h .1))
 
 -- ---- the checks
 
-known-by : (s : Scissor) (t : Bool) (v : Verdict) (rest : Checked) → (t ≡ false → knownOf s rest) → knownOf s (refusedBy t v rest)
-known-by s true v rest f = tt
-known-by s false v rest f = f refl
+-- what holds of each refusal, and of what comes after a check, holds of both together
+refused-or : (K : Checked → Type 0) → ((v : Verdict) → K (checked.Refused v)) → (t : Bool) (v : Verdict) (rest : Checked) → (t ≡ false → K rest) → K (refusedBy t v rest)
+refused-or K r true v rest f = r v
+refused-or K r false v rest f = f refl
+
+through : (K : Checked → Type 0) → ((v : Verdict) → K (checked.Refused v)) → (p : ℕ) (bs : List ℕ) (opcode : ℕ) (s : Scissor)
+    → (scissorBad s ≡ false → K (objectOf (copies opcode) (decode p (copies opcode) bs))) → K (checkedOf p bs opcode s)
+unfolding checkedOf
+through K r p bs opcode s f =
+    let last = objectOf (copies opcode) (decode p (copies opcode) bs) in
+    let third = refusedBy (scissorBad s) verdict.Scissor last in
+    let second = refusedBy (short p opcode bs) verdict.Short third in
+    refused-or K r (opcodeBad opcode) verdict.Opcode second (λ _. refused-or K r (short p opcode bs) verdict.Short third (λ _. refused-or K r (scissorBad s) verdict.Scissor last f))
+
+through-copy : (K : Checked → Type 0) → ((v : Verdict) → K (checked.Refused v)) → (bg : ObjBg) → (any (objectFaults bg) ≡ false → any (copyFaults bg) ≡ false → K (checked.Copy bg)) → K (objectOf true bg)
+unfolding objectOf
+through-copy K r bg f =
+    let last = refusedBy (any (copyFaults bg)) verdict.Copy (checked.Copy bg) in
+    refused-or K r (any (objectFaults bg)) verdict.Object last (λ e. refused-or K r (any (copyFaults bg)) verdict.Copy (checked.Copy bg) (f e))
+
+through-scaled : (K : Checked → Type 0) → ((v : Verdict) → K (checked.Refused v)) → (bg : ObjBg) → (any (objectFaults bg) ≡ false → K (checked.Scaled bg)) → K (objectOf false bg)
+unfolding objectOf
+through-scaled K r bg f = refused-or K r (any (objectFaults bg)) verdict.Object (checked.Scaled bg) f
 
 edge-in : (z : ℤ) → edgeBad z ≡ false → Below 10 z
 edge-in z e =
@@ -129,24 +149,37 @@ scaled p bs s q = record { passed = q; scale-w = omega arith; scale-h = omega ar
 
 -- what passes is decoded as the checks' kind says
 object-known : (p : ℕ) (copy : Bool) (bs : List ℕ) (s : Scissor) → Bytes bs → scissorBad s ≡ false → knownOf s (objectOf copy (decode p copy bs))
-unfolding objectOf
-object-known p true bs s h b = known-by s _ _ _ (λ e. known-by s _ _ _ (λ f. passed-5 _ s (passed _ s (decode-range p true bs h) b e) f))
-object-known p false bs s h b = known-by s _ _ _ (λ e. scaled p bs s (passed _ s (decode-range p false bs h) b e))
+object-known p true bs s h b = through-copy (knownOf s) (λ v. tt) (decode p true bs) (λ e f. passed-5 _ s (passed _ s (decode-range p true bs h) b e) f)
+object-known p false bs s h b = through-scaled (knownOf s) (λ v. tt) (decode p false bs) (λ e. scaled p bs s (passed _ s (decode-range p false bs h) b e))
 
 pub checked-known : (p : ℕ) (bs : List ℕ) (opcode : ℕ) (s : Scissor) → Bytes bs → knownOf s (checkedOf p bs opcode s)
-unfolding checkedOf
-checked-known p bs opcode s h =
-    let last = objectOf (copies opcode) (decode p (copies opcode) bs) in
-    let third = refusedBy (scissorBad s) verdict.Scissor last in
-    let second = refusedBy (short p opcode bs) verdict.Short third in
-    known-by s (opcodeBad opcode) verdict.Opcode second
-    (λ _. known-by s (short p opcode bs) verdict.Short third (λ _. known-by s (scissorBad s) verdict.Scissor last (λ b. object-known p (copies opcode) bs s h b)))
+checked-known p bs opcode s h = through (knownOf s) (λ v. tt) p bs opcode s (object-known p (copies opcode) bs s h)
 
 pub passed-copy : (p : ℕ) (bs : List ℕ) (opcode : ℕ) (s : Scissor) (bg : ObjBg) → Bytes bs → checkedOf p bs opcode s ≡ checked.Copy bg → PassedCopy bg s
 passed-copy p bs opcode s bg h e = subst (knownOf s) e (checked-known p bs opcode s h)
 
 pub passed-scaled : (p : ℕ) (bs : List ℕ) (opcode : ℕ) (s : Scissor) (bg : ObjBg) → Bytes bs → checkedOf p bs opcode s ≡ checked.Scaled bg → PassedScaled bg s
 passed-scaled p bs opcode s bg h e = subst (knownOf s) e (checked-known p bs opcode s h)
+
+-- ---- what passes is what the bytes hold
+
+abbrev heldBy : ℕ → List ℕ → Checked → Type 0
+heldBy p bs (checked.Copy bg) = bg ≡ decode p true bs
+heldBy p bs (checked.Scaled bg) = bg ≡ decode p false bs
+heldBy p bs (checked.Refused v) = Unit {0}
+
+object-held : (p : ℕ) (copy : Bool) (bs : List ℕ) → heldBy p bs (objectOf copy (decode p copy bs))
+object-held p true bs = through-copy (heldBy p bs) (λ v. tt) (decode p true bs) (λ e f. refl)
+object-held p false bs = through-scaled (heldBy p bs) (λ v. tt) (decode p false bs) (λ e. refl)
+
+checked-held : (p : ℕ) (bs : List ℕ) (opcode : ℕ) (s : Scissor) → heldBy p bs (checkedOf p bs opcode s)
+checked-held p bs opcode s = through (heldBy p bs) (λ v. tt) p bs opcode s (λ b. object-held p (copies opcode) bs)
+
+pub checked-copy-is : (p : ℕ) (bs : List ℕ) (opcode : ℕ) (s : Scissor) (bg : ObjBg) → checkedOf p bs opcode s ≡ checked.Copy bg → bg ≡ decode p true bs
+checked-copy-is p bs opcode s bg e = subst (heldBy p bs) e (checked-held p bs opcode s)
+
+pub checked-scaled-is : (p : ℕ) (bs : List ℕ) (opcode : ℕ) (s : Scissor) (bg : ObjBg) → checkedOf p bs opcode s ≡ checked.Scaled bg → bg ≡ decode p false bs
+checked-scaled-is p bs opcode s bg e = subst (heldBy p bs) e (checked-held p bs opcode s)
 
 -- ---- the checks, from what the decoder gives
 

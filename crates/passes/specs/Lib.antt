@@ -6,3 +6,4 @@ pub mod Sums
 pub mod Loads
 pub mod Kept
 pub mod Enter
+pub mod Going

@@ -158,3 +158,10 @@ none-left (negsuc n) t = refl
 pub positive : (v : ℤ) → leZ v (pos 0) ≡ false → ltZ (pos 0) v ≡ true
 positive (pos n) t = lt-ltb 0 n (leb-false n 0 t)
 positive (negsuc n) t = absurd (false≢true (sym t))
+
+-- going on with a value, and stopping
+pub after-yield : {A B : Type 0} (o : Out A) (a : A) (k : A → Out B) → yield a ≡ o → (o >>= k) ≡ k a
+after-yield {A} o a k e = ap (λ (x : Out A). x >>= k) (sym e) ∙ more-nil (k a)
+
+pub after-refuse : {A B : Type 0} (o : Out A) (v : Verdict) (k : A → Out B) → refuse v ≡ o → (o >>= k) ≡ refuse v
+after-refuse {A} o v k e = ap (λ (x : Out A). x >>= k) (sym e)

@@ -2,10 +2,12 @@
 -- Assumes nothing.
 use mathlib.Core.Path.{_≡_}
 use Prim.Native.Nat.{ℕ, _+_, _-_, _*_, _/_, _^_, _≤_, _<_}
-use lib.IntN.{ℤ, pos, negℤ}
-use lib.Signed.{_≤ℤ_}
+use mathlib.Core.Bool.{cond}
+use lib.IntN.{ℤ, pos, negℤ, _+ℤ_, _*ℤ_}
+use lib.Signed.{_≤ℤ_, ltZ}
 use Rattle.signed.specs.Diff.{up, dn}
-use Rattle.signed.specs.Floor.{modulo}
+use Rattle.signed.specs.Floor.{floorDiv, modulo}
+use Rattle.signed.specs.Cast.{minZ}
 use Rattle.object.specs.Range.{Within}
 use Rattle.plan.specs.declared.types.Scaled.{Scaled}
 use Rattle.plan.specs.declared.types.Source.{Source}
@@ -35,6 +37,22 @@ pub record SoundWalk (w : Walk) : Type 0 where
   pub t : w .t ≤ 31
   pub low : dn (w .source .remain) + 1280000 * up (w .«frame_remain») ≤ 2 ^ 40 + 20000 * (up (w .count) / 16)
   pub high : up (w .source .remain) + dn (w .«slice_rows») ≤ 2 ^ 28
+
+-- a walk with lines left
+pub record Runs (z : Scaled) (w : Walk) : Type 0 where
+  pub scaled : SoundScaled z
+  pub walk : SoundWalk w
+  pub left : pos 1 ≤ℤ w .«frame_remain»
+
+-- R 354, 366–370 over their numbers
+abbrev pub dueLines : ℤ → ℕ
+dueLines count = up (floorDiv count 1024)
+
+abbrev pub cutLines : (draw : ℕ) → (left : ℤ) → ℕ
+cutLines draw left = cond (ltZ left (pos 0)) (up (pos draw +ℤ left)) draw
+
+abbrev pub cutRows : Scaled → (rows left : ℤ) → ℤ
+cutRows z rows left = cond (ltZ left (pos 0)) (minZ (rows +ℤ floorDiv (left *ℤ pos (z .«scale_h»)) 1024 +ℤ pos 1) (pos (z .«image_rows»))) rows
 
 -- a pass that draws: its rows and lines are those of the walk
 pub record SoundPass (p : Place) : Type 0 where

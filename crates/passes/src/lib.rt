@@ -3,6 +3,7 @@ mod load;
 mod rows;
 mod sums;
 mod types;
+mod walk;
 pub use types::Moved;
 pub use types::Part;
 pub use types::Piece;

@@ -1,6 +1,6 @@
 // Sums and products of row counts, which may be negative.
 ghost use mathlib.Core.Path.{_≡_};
-ghost use Prim.Native.Nat.{_≤_};
+ghost use Prim.Native.Nat.{_≤_, _^_};
 ghost use lib.IntN.{pos, _+ℤ_, _-ℤ_, _*ℤ_};
 ghost use Rattle.object.specs.Range.{Within};
 
@@ -12,14 +12,14 @@ pub fn difference(a: i64, b: i64) -> i64
 }
 
 pub fn plus(a: i64, n: u64) -> i64
-    requires { ⌜ (Within 61 a) × (n ≤ 65536) ⌝ }
+    requires { ⌜ (Within 61 a) × (n ≤ 2 ^ 40) ⌝ }
     ensures { λ r. ⌜ r ≡ a +ℤ pos n ⌝ }
 {
     a + n as i64
 }
 
 pub fn less(a: i64, n: u64) -> i64
-    requires { ⌜ (Within 61 a) × (n ≤ 65536) ⌝ }
+    requires { ⌜ (Within 61 a) × (n ≤ 2 ^ 40) ⌝ }
     ensures { λ r. ⌜ r ≡ a -ℤ pos n ⌝ }
 {
     a - n as i64

@@ -11,3 +11,4 @@ pub mod Laws
 pub mod Steps
 pub mod Next
 pub mod Sound
+pub mod Demand

@@ -3,11 +3,10 @@
 use mathlib.Core.Bool.{Bool, true, false, cond}
 use mathlib.Core.Path.{_≡_, refl}
 use Prim.Native.Nat.{ℕ, _+_, _%_, _≤_}
-use native.Mathlib.Omega.{arith}
 use lib.Dec.{eqb}
 use lib.IntN.{ℤ, pos}
 use lib.Signed.{leZ, _≤ℤ_}
-use Rattle.signed.specs.Diff.{up, zdiff, zparts, zarith}
+use Rattle.signed.specs.Diff.{zdiff, zparts, zarith}
 use Rattle.signed.specs.Cast.{minZ}
 use Rattle.object.specs.declared.types.ObjBg.{ObjBg}
 use Rattle.object.specs.declared.types.Scissor.{Scissor}

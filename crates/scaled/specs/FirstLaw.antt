@@ -1,7 +1,7 @@
 -- The first strip starts at most its lines before the frame's first line: what is hidden of it, what is left, and the ranges.
 -- Assumes nothing.
 use mathlib.Core.Path.{_≡_, refl, sym, ap, subst, _∙_}
-use Prim.Native.Nat.{ℕ, _+_, _-_, _*_, _/_, _%_, _^_, _<_, _≤_}
+use Prim.Native.Nat.{ℕ, _+_, _-_, _*_, _/_, _^_, _<_, _≤_}
 use native.Mathlib.Omega.{arith}
 use native.Mathlib.Nat.{mul-le-mul}
 use lib.Dec.{lit<}
@@ -17,7 +17,6 @@ use Rattle.plan.specs.declared.types.First.{First}
 use Rattle.plan.specs.Scaled.{firstOf}
 use Rattle.plan.specs.Sound.{SoundScaled, SoundFirst}
 use Rattle.scaled.specs.First.{imageOffset, frameOffset, sliceStart, hiddenOf, countOf, imageRow, offsetOf, sliceOf, startOfSlice}
-use Rattle.scaled.specs.Range.{Near}
 
 -- a strip of f lines starts at s, and e, a whole line, is a remainder below f after it
 pub record Starts (e : ℤ) (f : ℕ) (s : ℤ) : Type 0 where
@@ -104,7 +103,6 @@ module _ (z : Scaled) (i : Start) (v : SoundScaled z) where
   unfolding n
   sound-at =
       let c = count-is (offsetOf z i) (z .«frame_rows») (startOfSlice z i) from in
-      let r = row-le in
       record {
         count = rw c (omega (zarith, from .below));
         count′ = rw c (omega (zarith, v .frame-rows′));

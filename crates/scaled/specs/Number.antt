@@ -1,8 +1,8 @@
--- Bounds of products and quotients, and the words of a size, over numbers.
+-- Bounds of products and quotients, a word's units, and tests, over numbers.
 -- Assumes nothing.
 use mathlib.Core.Bool.{Bool, true, false, cond, _||_}
 use mathlib.Core.Path.{_≡_, refl, ap, _∙_}
-use Prim.Native.Nat.{ℕ, zero, suc, _+_, _-_, _*_, _/_, _%_, _≤_, _<_, _^_}
+use Prim.Native.Nat.{ℕ, zero, suc, _+_, _-_, _*_, _/_, _%_, _≤_, _^_}
 use native.Mathlib.Omega.{arith}
 use native.Mathlib.Nat.{mul-le-mul, mul-le-mul-left, mul-div-cancel, lt-of-le-of-lt, div-mul-le-self}
 use borrow.Author.Tests.{eqb-false}
@@ -22,7 +22,7 @@ fits-mul m n t h k = record { fits = lt-of-le-of-lt (mul-le-mul h k) (lit< t) }
 pub sampled-le : (q scale : ℕ) → scale ≤ 65535 → q * scale / 128 ≤ q * 512
 sampled-le q scale h = omega (arith, mul-le-mul-left q h)
 
-pub power : (n k : ℕ) → k ≤ n → 2 ^ n / 2 ^ k ≡ 2 ^ (n - k)
+power : (n k : ℕ) → k ≤ n → 2 ^ n / 2 ^ k ≡ 2 ^ (n - k)
 power n k h =
     let e : n ≡ n - k + k = omega arith in
     ap (λ (i : ℕ). 2 ^ i / 2 ^ k) e ∙ ap (λ (i : ℕ). i / 2 ^ k) (pow-add 2 (n - k) k) ∙ mul-div-cancel (2 ^ (n - k)) (pow-pos k)
@@ -54,7 +54,7 @@ pub chosen-le : (t : Bool) {a b n : ℕ} → a ≤ n → b ≤ n → cond t a b 
 chosen-le true h k = h
 chosen-le false h k = k
 
--- a test that none of two holds
+-- neither of two tests holds, and a number that is not 0
 pub or-false : (a b : Bool) → (a || b) ≡ false → (a ≡ false) × (b ≡ false)
 or-false true b e = let z : _≡_ {A = ℕ} 0 1 = cc in absurd (omega arith)
 or-false false b e = (refl, e)

@@ -3,6 +3,7 @@
 use mathlib.Core.Bool.{false}
 use mathlib.Core.Path.{_≡_}
 use Prim.Native.Nat.{ℕ, _^_, _≤_, _<_}
+use native.Mathlib.Omega.{arith}
 use lib.IntN.{ℤ, pos, negℤ}
 use lib.Signed.{_≤ℤ_}
 use mir.Syntax.{w32, w64}
@@ -94,14 +95,19 @@ reads15 {z} r = let b : SFits w64 z = omega zarith in toZ-ofZ w64 z b
 pub reads31 : {z : ℤ} → Within 31 z → toZ w64 (ofZ w64 z) ≡ z
 reads31 {z} r = let b : SFits w64 z = omega zarith in toZ-ofZ w64 z b
 
+pub reads33 : {i : Start} → Near i → toZ w64 (ofZ w64 (i .origin)) ≡ i .origin
+reads33 {i} r = let b : SFits w64 (i .origin) = omega zarith in toZ-ofZ w64 (i .origin) b
+
+pub reads49 : {z : ℤ} → negℤ (pos (2 ^ 49)) ≤ℤ z → z ≤ℤ pos (2 ^ 49) → toZ w64 (ofZ w64 z) ≡ z
+reads49 {z} l h = let b : SFits w64 z = omega zarith in toZ-ofZ w64 z b
+
+-- edges and extents as numbers
 pub edge-le : {z : ℤ} → Below 10 z → up z ≤ 1023
 edge-le {z} r = omega zarith
 
 pub extent-le : {z : ℤ} → Below 16 z → up z ≤ 65535
 extent-le {z} r = omega zarith
 
-pub reads33 : {i : Start} → Near i → toZ w64 (ofZ w64 (i .origin)) ≡ i .origin
-reads33 {i} r = let b : SFits w64 (i .origin) = omega zarith in toZ-ofZ w64 (i .origin) b
-
-pub reads49 : {z : ℤ} → negℤ (pos (2 ^ 49)) ≤ℤ z → z ≤ℤ pos (2 ^ 49) → toZ w64 (ofZ w64 z) ≡ z
-reads49 {z} l h = let b : SFits w64 z = omega zarith in toZ-ofZ w64 z b
+-- a start in an image is near enough for the first strip
+pub near : {bg : ObjBg} {i : Start} → Usable bg → StartIn bg i → Near i
+near {bg} {i} u s = record { image-y = omega (arith, s .image-y, extent-le (u .range .image-h)); low = s .low; high = s .high }

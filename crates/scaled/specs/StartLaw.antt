@@ -1,7 +1,7 @@
 -- The range of a start.
 -- Assumes nothing.
 use mathlib.Core.Bool.{cond}
-use Prim.Native.Nat.{ℕ, _+_, _*_, _/_, _%_, _^_, _≤_}
+use Prim.Native.Nat.{ℕ, _+_, _*_, _/_, _^_, _≤_}
 use native.Mathlib.Omega.{arith}
 use native.Mathlib.Nat.{mod-lt, div-mul-le-self}
 use lib.IntN.{ℤ, pos, negℤ}

@@ -1,4 +1,4 @@
--- The parts of `scaledOf` and `startOf` that one function computes.
+-- The parts of `scaledOf` and `startOf`. They are shut, so that a caller's goals stay short.
 -- Assumes nothing.
 use mathlib.Core.Bool.{Bool, cond}
 use mathlib.Core.Path.{_≡_}
@@ -13,18 +13,20 @@ use Rattle.plan.specs.Scaled.{scaledCapacity}
 use Rattle.scaled.specs.declared.strip.Rows.{Rows}
 use Rattle.scaled.specs.declared.strip.Columns.{Columns}
 
--- the units of one 64-bit word of texels
+-- the thirty-seconds of a texel in one 64-bit word
 unfoldable pub shiftOf : (siz : ℕ) → ℕ
 shiftOf siz = 512 / 2 ^ siz
 
 unfoldable pub maxSlice : (siz sampled bilerp source-w : ℕ) → ℕ
 maxSlice siz sampled bilerp source-w = cond (eqb siz 3) 0x2800 (min (sampled + bilerp * 32) source-w)
 
+-- the words of a tile's row
 unfoldable pub lineOf : ObjBg → (bilerp : ℕ) → ℕ
 lineOf bg bilerp =
     let shift = shiftOf (bg .«image_siz») in
     (maxSlice (bg .«image_siz») (sampledBy (quarters (bg .«frame_w»)) (bg .«scale_w» .0)) bilerp (inImage (quarters (bg .«image_w»))) + (shift - 1)) / shift + 1
 
+-- whether a strip's rows run over the image's right side, its first column, and the image's origin
 unfoldable pub splitOf : (source-w end : ℕ) → ℕ
 splitOf source-w end = cond (leb source-w end) 1 0
 
@@ -34,6 +36,7 @@ sOf flip s width = cond flip (negℤ (pos (s + width))) (pos s)
 unfoldable pub originOf : ℤ → (down back : ℕ) → ℤ
 originOf o down back = o +ℤ pos down -ℤ pos back
 
+-- a strip's rows
 abbrev pub rowsOf : ObjBg → (bilerp : ℕ) → ℕ
 rowsOf bg bilerp = scaledCapacity (bg .«image_fmt») (bg .«image_siz») / lineOf bg bilerp - bilerp
 

@@ -28,7 +28,8 @@ fn max_of(image: u64, scale: u64) -> i64
     ensures { λ r. ⌜ (negℤ (pos 4) ≤ℤ r) × (r ≤ℤ pos (2 ^ 26)) ⌝ }
 {
     let shown = (image << 10) / scale;
-    signed::clear2(shown as i64 - 1)
+    let less = shown as i64 - 1;
+    signed::clear2(less)
 }
 
 // What a frame wider than its image loses.

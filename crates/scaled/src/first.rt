@@ -1,6 +1,6 @@
 // The first strip, which the frame's top may cut.
 ghost use mathlib.Core.Path.{_≡_};
-ghost use Prim.Native.Nat.{_+_, _-_, _*_, _/_, _≤_, _<_, _^_};
+ghost use Prim.Native.Nat.{_+_, _-_, _*_, _/_, _≤_, _^_};
 ghost use lib.IntN.{pos, negℤ, _+ℤ_, _-ℤ_};
 ghost use lib.Signed.{_≤ℤ_, _<ℤ_};
 ghost use mir.Syntax.{w64};

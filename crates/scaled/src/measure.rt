@@ -1,7 +1,7 @@
 // The object's measures as numbers.
 ghost use mathlib.Core.Bool.{cond};
 ghost use mathlib.Core.Path.{_≡_};
-ghost use Prim.Native.Nat.{_+_, _*_, _≤_, _^_};
+ghost use Prim.Native.Nat.{_*_, _≤_};
 ghost use Rattle.signed.specs.Diff.{up};
 ghost use Rattle.object.specs.Measure.{quarters, thirtySeconds, sampledBy};
 use object::Quarters;

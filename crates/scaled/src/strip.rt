@@ -36,7 +36,7 @@ fn bilerp_of(mode: u32) -> u64
     ((mode >> 3) & 1) as u64
 }
 
-// The thirty-seconds of a texel that one 64-bit word holds.
+// The thirty-seconds of a texel in one 64-bit word.
 fn shift_of(siz: u8) -> u64
     requires { ⌜ siz ≤ 3 ⌝ }
     ensures { λ r. ⌜ r ≡ shiftOf siz ⌝ }

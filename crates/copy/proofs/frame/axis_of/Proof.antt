@@ -1,9 +1,9 @@
 -- `copy::frame::axis_of`: the three numbers are the definition's, read back from their bits. Assumes nothing.
-use Rattle.signed.specs.Diff.{zarith}
-use Rattle.signed.specs.Word.{rd}
 use mir.Syntax.{w32, w64}
 use mir.Val.{SFits}
 use mir.ValLaws.{toZ-ofZ}
+use Rattle.signed.specs.Diff.{zarith}
+use Rattle.signed.specs.Word.{rd}
 use Rattle.copy.specs.Frame.{axisOf}
 use borrow.Author.Needs.{needs}
 use Rattle.copy.proofs.frame.axis_of.Statement.{statement}
@@ -15,37 +15,35 @@ edge-of-requires c κs = search needs
 near-requires : tie.Need-near-requires
 near-requires c κs = search needs
 
-positive-requires : tie.Need-positive-requires
-positive-requires c κs = search needs
+quarters-requires : tie.Need-quarters-requires
+quarters-requires c κs = search needs
 
 edge-of-requires-2 : tie.Need-edge-of-requires-2
 edge-of-requires-2 c κs = search needs
 
 cells-in-requires : tie.Need-cells-in-requires
-cells-in-requires c κs = let a = c .before .before .before .before .before .before .before in
+cells-in-requires c κs =
+    let a = c .before .before .before .before .before .before in
     let f : SFits w64 (a .args .frame .0) = omega zarith in
-    let g : SFits w64 (a .args .size .0) = omega zarith in
-    let e = rw (rd g) at (c .before .before .positive .ensures) in
-    (rw (rd f) (a .pre .0 .0), (omega zarith, c .before .edge-of2 .ensures .most, c .before .before .before .before .near .ensures .most))
+    (rw (rd f) (a .pre .0 .0), (omega (zarith, c .before .before .quarters .ensures), c .before .edge-of2 .ensures .most, c .before .before .before .near .ensures .most))
 
 cells-before-requires : tie.Need-cells-before-requires
 cells-before-requires c κs = search needs
 
 returns : tie.Need-returns
 unfolding axisOf
-returns c = let a = c .before .before .before .before .before .before .before .before .before .before in
+returns c =
+    let a = c .before .before .before .before .before .before .before .before .before in
     let f : SFits w64 (a .args .frame .0) = omega zarith in
-    let g : SFits w64 (a .args .size .0) = omega zarith in
     record {
       is = rw (
         c .cells-before .ensures .is,
         c .before .before .cells-in .ensures,
         c .before .before .before .before .edge-of2 .ensures .is,
-        c .before .before .before .before .before .positive .ensures,
-        c .before .before .before .before .before .before .before .near .ensures .is,
-        c .before .before .before .before .before .before .before .before .before .edge-of .ensures .is,
+        c .before .before .before .before .before .quarters .ensures,
+        c .before .before .before .before .before .before .near .ensures .is,
+        c .before .before .before .before .before .before .before .before .edge-of .ensures .is,
         rd f,
-        rd g,
         toZ-ofZ w32 (a .args .low) (a .fits .low),
         toZ-ofZ w32 (a .args .high) (a .fits .high),
       );
@@ -58,7 +56,7 @@ axis-of-spec =
     (tie.spec
     edge-of-requires
     near-requires
-    positive-requires
+    quarters-requires
     edge-of-requires-2
     cells-in-requires
     cells-before-requires

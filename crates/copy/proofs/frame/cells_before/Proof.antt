@@ -1,7 +1,6 @@
 -- `copy::frame::cells_before`: the difference is read back from its bits. Assumes nothing.
 use Rattle.signed.specs.Diff.{up, zdiff, zparts, zarith}
 use Rattle.signed.specs.Word.{rd, rdn}
-use mathlib.Core.Path.{_≡_}
 use Prim.Native.Nat.{_≤_}
 use lib.IntN.{pos, _-ℤ_}
 use borrow.Author.Needs.{needs}
@@ -18,7 +17,8 @@ positive-requires : tie.Need-positive-requires
 positive-requires c κs = search needs
 
 returns : tie.Need-returns
-returns c = let a = c .before in
+returns c =
+    let a = c .before in
     let e = rw (rd (sub-positive a), rd (a .fits .frame), rdn (a .args .near) (cast-positive a .sfits)) at (c .positive .ensures) in
     let h : up (pos (a .args .near) -ℤ a .args .frame) ≤ 65535 = simp zdiff (simp zparts (omega zarith)) in
     record { is = rw e; most = omega (zarith, e) }

@@ -18,27 +18,31 @@ cast-start : tie.Need-cast-start
 cast-start c = search needs
 
 sub-positive : tie.Need-sub-positive
-sub-positive c = let a = c .before in
+sub-positive c =
+    let a = c .before in
     rw (rd (add-end a), rd (a .fits .frame), rdn (a .args .size) (cast-end a .sfits), rdn (a .args .near) (cast-start a .sfits)) (simp zdiff (omega zarith))
 
 positive-requires : tie.Need-positive-requires
 positive-requires c κs = search needs
 
 sub-positive-2 : tie.Need-sub-positive-2
-sub-positive-2 c = let a = c .before in
+sub-positive-2 c =
+    let a = c .before in
     rw (rdn (a .args .high) (cast-scissor a .sfits), rdn (a .args .near) (cast-start a .sfits)) (simp zdiff (omega zarith))
 
 positive-requires-2 : tie.Need-positive-requires-2
 positive-requires-2 c κs = search needs
 
 returns : tie.Need-returns
-returns c = let a = c .before .before in
+returns c =
+    let a = c .before .before in
     let t = rw (rd (add-end a), rd (a .fits .frame), rdn (a .args .size) (cast-end a .sfits), rdn (a .args .high) (cast-scissor a .sfits)) at (c .before .if1 .taken) in
     let e = rw (rd (sub-positive (c .before)), rd (add-end a), rd (a .fits .frame), rdn (a .args .size) (cast-end a .sfits), rdn (a .args .near) (cast-start a .sfits)) at (c .positive .ensures) in
     rw (t, e)
 
 returns-2 : tie.Need-returns-2
-returns-2 c = let a = c .before .before in
+returns-2 c =
+    let a = c .before .before in
     let t = rw (rd (add-end a), rd (a .fits .frame), rdn (a .args .size) (cast-end a .sfits), rdn (a .args .high) (cast-scissor a .sfits)) at (c .before .if1 .left) in
     let e = rw (rd (sub-positive-2 (c .before)), rdn (a .args .high) (cast-scissor a .sfits), rdn (a .args .near) (cast-start a .sfits)) at (c .positive2 .ensures) in
     rw (t, e)

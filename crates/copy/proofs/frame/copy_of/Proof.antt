@@ -14,23 +14,25 @@ axis-of-requires c κs = search needs
 axis-of-requires-2 : tie.Need-axis-of-requires-2
 axis-of-requires-2 c κs = search needs
 
-texels-in-requires : tie.Need-texels-in-requires
-texels-in-requires c κs = search needs
+texels-requires : tie.Need-texels-requires
+texels-requires c κs = search needs
 
-texels-in-requires-2 : tie.Need-texels-in-requires-2
-texels-in-requires-2 c κs = search needs
+texels-requires-2 : tie.Need-texels-requires-2
+texels-requires-2 c κs = search needs
 
-texels-in-requires-3 : tie.Need-texels-in-requires-3
-texels-in-requires-3 c κs = search needs
+texels-requires-3 : tie.Need-texels-requires-3
+texels-requires-3 c κs = search needs
 
-texels-at-requires : tie.Need-texels-at-requires
-texels-at-requires c κs = search needs
+whole-texels-requires : tie.Need-whole-texels-requires
+whole-texels-requires c κs = search needs
 
-texels-at-requires-2 : tie.Need-texels-at-requires-2
-texels-at-requires-2 c κs = search needs
+whole-texels-requires-2 : tie.Need-whole-texels-requires-2
+whole-texels-requires-2 c κs = search needs
 
 add-source-y : tie.Need-add-source-y
-add-source-y c = search needs
+add-source-y c =
+    let r = c .before .before .before .before .before .before .before .before .before .before .before .before .pre .passed .range .image-y in
+    omega (zarith, c .before .whole-texels2 .ensures, c .before .before .before .before .before .before .axis-of2 .ensures .skip)
 
 copy-capacity-requires : tie.Need-copy-capacity-requires
 copy-capacity-requires c κs = search needs
@@ -45,7 +47,8 @@ rows-in-requires : tie.Need-rows-in-requires
 rows-in-requires c κs = search needs
 
 returns : tie.Need-returns
-returns c = let a = c .before .before .before .before .before .before .before .before .before .before .before .before .before .before .before .before .before in
+returns c =
+    let a = c .before .before .before .before .before .before .before .before .before .before .before .before .before .before .before .before .before in
     let ulx : SFits w32 (a .args .scissor .ulx) = omega zarith in
     let uly : SFits w32 (a .args .scissor .uly) = omega zarith in
     let lrx : SFits w32 (a .args .scissor .lrx) = omega zarith in
@@ -53,11 +56,11 @@ returns c = let a = c .before .before .before .before .before .before .before .b
     copy-is (a .args .bg) (a .args .scissor) (a .args .address) (a .pre)
     (rw (toZ-ofZ w32 _ ulx, toZ-ofZ w32 _ lrx) at (c .before .before .before .before .before .before .before .before .before .before .before .before .before .before .axis-of .ensures))
     (rw (toZ-ofZ w32 _ uly, toZ-ofZ w32 _ lry) at (c .before .before .before .before .before .before .before .before .before .before .before .axis-of2 .ensures))
-    (c .before .before .before .before .before .before .before .before .before .before .texels-in .ensures)
-    (c .before .before .before .before .before .before .before .before .before .texels-in2 .ensures)
-    (c .before .before .before .before .before .before .before .before .texels-in3 .ensures)
-    (c .before .before .before .before .before .before .before .texels-at .ensures)
-    (c .before .before .before .before .before .before .texels-at2 .ensures)
+    (c .before .before .before .before .before .before .before .before .before .before .texels .ensures)
+    (c .before .before .before .before .before .before .before .before .before .texels2 .ensures)
+    (c .before .before .before .before .before .before .before .before .texels3 .ensures)
+    (c .before .before .before .before .before .before .before .whole-texels .ensures)
+    (c .before .before .before .before .before .before .whole-texels2 .ensures)
     (c .before .rows-in .ensures)
     (c .before .before .low8 .ensures)
     (c .before .before .before .before .copy-capacity .ensures .is)
@@ -69,11 +72,11 @@ copy-of-spec =
     (tie.spec
     axis-of-requires
     axis-of-requires-2
-    texels-in-requires
-    texels-in-requires-2
-    texels-in-requires-3
-    texels-at-requires
-    texels-at-requires-2
+    texels-requires
+    texels-requires-2
+    texels-requires-3
+    whole-texels-requires
+    whole-texels-requires-2
     add-source-y
     copy-capacity-requires
     texels-per-word-requires

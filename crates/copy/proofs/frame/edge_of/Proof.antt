@@ -1,6 +1,5 @@
 -- `copy::frame::edge_of`: the cast to 64 bits keeps the number. Assumes nothing.
 use mathlib.Core.Path.{_≡_}
-use Prim.Native.Nat.{_*_}
 use mir.Syntax.{w32}
 use mir.ValLaws.{toZ-ofZ}
 use mir.Facts.{sfits-widen}

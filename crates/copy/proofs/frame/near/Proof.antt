@@ -1,7 +1,6 @@
 -- `copy::frame::near`: the larger of two bounded numbers. Assumes nothing.
-use Rattle.signed.specs.Diff.{up, zarith}
+use Rattle.signed.specs.Diff.{zarith}
 use Rattle.signed.specs.Word.{rd}
-use mathlib.Core.Path.{_≡_}
 use borrow.Author.Needs.{needs}
 use Rattle.copy.proofs.frame.near.Statement.{statement}
 use Rattle.copy.proofs.frame.near.Tie as tie

@@ -23,7 +23,8 @@ cast-back : tie.Need-cast-back
 cast-back c = search needs
 
 sub-rem-euclid : tie.Need-sub-rem-euclid
-sub-rem-euclid c = let a = c .before .before .before in
+sub-rem-euclid c =
+    let a = c .before .before .before in
     rw (rdn (a .args .c .«source_x» + a .args .c .«frame_cells») (cast-end (c .before) .sfits), rdn (1 + a .args .c .«x_skip» + a .args .x) (cast-back c .sfits)) (simp zdiff (omega zarith))
 
 rem-euclid-requires : tie.Need-rem-euclid-requires
@@ -42,13 +43,15 @@ rem-euclid-requires-2 : tie.Need-rem-euclid-requires-2
 rem-euclid-requires-2 c κs = search needs
 
 returns : tie.Need-returns
-returns c = let d = c .before in
+returns c =
+    let d = c .before in
     let a = d .before .before .before in
     let e = rw (rd (sub-rem-euclid d), rdn (a .args .c .«source_x» + a .args .c .«frame_cells») (cast-end (d .before) .sfits), rdn (1 + a .args .c .«x_skip» + a .args .x) (cast-back d .sfits)) at (c .rem-euclid .ensures) in
     column-is (a .args .c) (a .args .x) (a .pre .0) (rw (d .before .before .if1 .taken) e)
 
 returns-2 : tie.Need-returns-2
-returns-2 c = let d = c .before in
+returns-2 c =
+    let d = c .before in
     let a = d .before .before in
     let e = rw (rdn (a .args .c .«source_x» + a .args .c .«x_skip» + a .args .x) (cast-sx d .sfits)) at (c .rem-euclid2 .ensures) in
     column-is (a .args .c) (a .args .x) (a .pre .0) (rw (d .before .if1 .left) e)

@@ -28,8 +28,16 @@ line-of-requires c κs = search needs
 
 returns : tie.Need-returns
 unfolding stripOf
-returns c = let a = c .before .before .before .before .before in
-    strip-is (a .args .c) (a .args .x) (a .pre .0) (a .pre .1) (rw (c .line-of .ensures, c .before .aligned .ensures .is, c .before .before .source-left .ensures .is, c .before .before .before .width-at .ensures, c .before .before .before .before .column-at .ensures .is))
+returns c =
+    let a = c .before .before .before .before .before in
+    strip-is (a .args .c) (a .args .x) (a .pre .0) (a .pre .1)
+    (rw (
+      c .line-of .ensures,
+      c .before .aligned .ensures .is,
+      c .before .before .source-left .ensures .is,
+      c .before .before .before .width-at .ensures,
+      c .before .before .before .before .column-at .ensures .is,
+    ))
 
 pub strip-of-spec : {M : Type 1} → statement M
 strip-of-spec =

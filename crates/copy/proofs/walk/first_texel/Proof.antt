@@ -20,7 +20,8 @@ sub-signed16 : tie.Need-sub-signed16
 sub-signed16 c = rw (rdn (c .before .args .load-width) (cast-signed16 c .sfits)) (simp zdiff (omega zarith))
 
 mul-signed16 : tie.Need-mul-signed16
-mul-signed16 c = let n = c .before .args .load-width in
+mul-signed16 c =
+    let n = c .before .args .load-width in
     rw (rd (sub-signed16 c), rdn n (cast-signed16 c .sfits)) (simp zdiff (omega zarith))
 
 signed16-requires : tie.Need-signed16-requires
@@ -36,12 +37,14 @@ signed16-requires-2 : tie.Need-signed16-requires-2
 signed16-requires-2 c κs = search needs
 
 returns : tie.Need-returns
-returns c = let d = c .before in
+returns c =
+    let d = c .before in
     let n = d .before .args .load-width in
     rw (toZ-ofZ w16 (c .signed16 .result) (record { sfits = c .signed16 .ok }), c .signed16 .ensures, d .if1 .taken, rd (mul-signed16 d), rd (sub-signed16 d), rdn n (cast-signed16 d .sfits), turned n)
 
 returns-2 : tie.Need-returns-2
-returns-2 c = let d = c .before in
+returns-2 c =
+    let d = c .before in
     rw (toZ-ofZ w16 (c .signed162 .result) (record { sfits = c .signed162 .ok }), c .signed162 .ensures, d .if1 .left, rd (mul-signed16-2 d), rdn (d .before .args .offset) (cast-signed16-2 d .sfits))
 
 pub first-texel-spec : {M : Type 1} → statement M

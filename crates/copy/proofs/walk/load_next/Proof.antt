@@ -7,20 +7,15 @@ use Rattle.copy.proofs.walk.load_next.Tie as tie
 area-of-requires : tie.Need-area-of-requires
 area-of-requires c κs = search needs
 
-width-field-requires : tie.Need-width-field-requires
-width-field-requires c κs = search needs
-
-load-request-requires : tie.Need-load-request-requires
-load-request-requires c κs = search needs
+request-in-requires : tie.Need-request-in-requires
+request-in-requires c κs = search needs
 
 loaded-requires : tie.Need-loaded-requires
 loaded-requires c κs = search needs
 
 returns : tie.Need-returns
 unfolding copyNextOf
-returns c = rw (c .loaded .ensures, c .before .load-request .ensures, c .before .before .width-field .ensures, c .before .before .before .area-of .ensures)
+returns c = rw (c .loaded .ensures, c .before .request-in .ensures, c .before .before .area-of .ensures)
 
 pub load-next-spec : {M : Type 1} → statement M
-load-next-spec =
-    tie.close
-    (tie.spec area-of-requires width-field-requires load-request-requires loaded-requires returns)
+load-next-spec = tie.close (tie.spec area-of-requires request-in-requires loaded-requires returns)

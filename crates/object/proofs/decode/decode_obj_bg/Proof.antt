@@ -1,5 +1,4 @@
 -- `object::decode::decode_obj_bg` meets its contract: the test is that of `decodedOf`.
-use native.Mathlib.Omega.{arith}
 use borrow.Author.Needs.{needs}
 use borrow.Author.Tests.{lt-ltb, le-ltb}
 use Rattle.object.specs.Layout.{decodedOf}

@@ -1,5 +1,6 @@
 -- `object::decode::fields` meets its contract: each read is in range, and gives its field.
-use Prim.Native.Nat.{_+_, _≤_}
+use mathlib.Core.Bool.{cond}
+use Prim.Native.Nat.{ℕ, _+_, _≤_}
 use native.Mathlib.Omega.{arith}
 use lib.ListN.{length}
 use Rattle.object.specs.Layout.{layout, valueOf, decode}
@@ -9,6 +10,12 @@ use Rattle.object.proofs.decode.fields.Tie as tie
 
 held : (s : tie.Start) → 32 + s .args .pointer ≤ length (s .args .s .now)
 held s = common-held (s .args .pointer) (s .args .copy) _ (s .pre .1)
+
+in-copy : (s : tie.Start) (a : ℕ) → a ≤ 36 + s .args .pointer → cond (s .args .copy) a 0 ≤ length (s .args .s .now)
+in-copy s a h = copy-held (s .args .pointer) (s .args .copy) a _ (s .pre .1) h
+
+in-scaled : (s : tie.Start) (a : ℕ) → a ≤ 32 + s .args .pointer → cond (s .args .copy) 0 a ≤ length (s .args .s .now)
+in-scaled s a h = scaled-held (s .args .pointer) (s .args .copy) a _ (s .pre .1) h
 
 image-place-requires : tie.Need-image-place-requires
 image-place-requires c κs = omega (arith, held (c .before))
@@ -71,55 +78,55 @@ add-copy-half : tie.Need-add-copy-half
 add-copy-half c = omega (arith, c .before .before .before .before .before .before .before .before .before .before .before .before .before .before .before .pre .0)
 
 copy-half-requires : tie.Need-copy-half-requires
-copy-half-requires c κs = copy-held (c .before .before .before .before .before .before .before .before .before .before .before .before .before .before .before .args .pointer) (c .before .before .before .before .before .before .before .before .before .before .before .before .before .before .before .args .copy) (24 + c .before .before .before .before .before .before .before .before .before .before .before .before .before .before .before .args .pointer + 2) _ (c .before .before .before .before .before .before .before .before .before .before .before .before .before .before .before .pre .1) (omega arith)
+copy-half-requires c κs = let s = c .before .before .before .before .before .before .before .before .before .before .before .before .before .before .before in in-copy s (24 + s .args .pointer + 2) (omega arith)
 
 add-copy-half-2 : tie.Need-add-copy-half-2
 add-copy-half-2 c = omega (arith, c .before .before .before .before .before .before .before .before .before .before .before .before .before .before .before .before .pre .0)
 
 copy-half-requires-2 : tie.Need-copy-half-requires-2
-copy-half-requires-2 c κs = copy-held (c .before .before .before .before .before .before .before .before .before .before .before .before .before .before .before .before .args .pointer) (c .before .before .before .before .before .before .before .before .before .before .before .before .before .before .before .before .args .copy) (26 + c .before .before .before .before .before .before .before .before .before .before .before .before .before .before .before .before .args .pointer + 2) _ (c .before .before .before .before .before .before .before .before .before .before .before .before .before .before .before .before .pre .1) (omega arith)
+copy-half-requires-2 c κs = let s = c .before .before .before .before .before .before .before .before .before .before .before .before .before .before .before .before in in-copy s (26 + s .args .pointer + 2) (omega arith)
 
 add-copy-half-3 : tie.Need-add-copy-half-3
 add-copy-half-3 c = omega (arith, c .before .before .before .before .before .before .before .before .before .before .before .before .before .before .before .before .before .pre .0)
 
 copy-half-requires-3 : tie.Need-copy-half-requires-3
-copy-half-requires-3 c κs = copy-held (c .before .before .before .before .before .before .before .before .before .before .before .before .before .before .before .before .before .args .pointer) (c .before .before .before .before .before .before .before .before .before .before .before .before .before .before .before .before .before .args .copy) (28 + c .before .before .before .before .before .before .before .before .before .before .before .before .before .before .before .before .before .args .pointer + 2) _ (c .before .before .before .before .before .before .before .before .before .before .before .before .before .before .before .before .before .pre .1) (omega arith)
+copy-half-requires-3 c κs = let s = c .before .before .before .before .before .before .before .before .before .before .before .before .before .before .before .before .before in in-copy s (28 + s .args .pointer + 2) (omega arith)
 
 add-copy-half-4 : tie.Need-add-copy-half-4
 add-copy-half-4 c = omega (arith, c .before .before .before .before .before .before .before .before .before .before .before .before .before .before .before .before .before .before .pre .0)
 
 copy-half-requires-4 : tie.Need-copy-half-requires-4
-copy-half-requires-4 c κs = copy-held (c .before .before .before .before .before .before .before .before .before .before .before .before .before .before .before .before .before .before .args .pointer) (c .before .before .before .before .before .before .before .before .before .before .before .before .before .before .before .before .before .before .args .copy) (30 + c .before .before .before .before .before .before .before .before .before .before .before .before .before .before .before .before .before .before .args .pointer + 2) _ (c .before .before .before .before .before .before .before .before .before .before .before .before .before .before .before .before .before .before .pre .1) (omega arith)
+copy-half-requires-4 c κs = let s = c .before .before .before .before .before .before .before .before .before .before .before .before .before .before .before .before .before .before in in-copy s (30 + s .args .pointer + 2) (omega arith)
 
 add-copy-half-5 : tie.Need-add-copy-half-5
 add-copy-half-5 c = omega (arith, c .before .before .before .before .before .before .before .before .before .before .before .before .before .before .before .before .before .before .before .pre .0)
 
 copy-half-requires-5 : tie.Need-copy-half-requires-5
-copy-half-requires-5 c κs = copy-held (c .before .before .before .before .before .before .before .before .before .before .before .before .before .before .before .before .before .before .before .args .pointer) (c .before .before .before .before .before .before .before .before .before .before .before .before .before .before .before .before .before .before .before .args .copy) (32 + c .before .before .before .before .before .before .before .before .before .before .before .before .before .before .before .before .before .before .before .args .pointer + 2) _ (c .before .before .before .before .before .before .before .before .before .before .before .before .before .before .before .before .before .before .before .pre .1) (omega arith)
+copy-half-requires-5 c κs = let s = c .before .before .before .before .before .before .before .before .before .before .before .before .before .before .before .before .before .before .before in in-copy s (32 + s .args .pointer + 2) (omega arith)
 
 add-copy-half-6 : tie.Need-add-copy-half-6
 add-copy-half-6 c = omega (arith, c .before .before .before .before .before .before .before .before .before .before .before .before .before .before .before .before .before .before .before .before .pre .0)
 
 copy-half-requires-6 : tie.Need-copy-half-requires-6
-copy-half-requires-6 c κs = copy-held (c .before .before .before .before .before .before .before .before .before .before .before .before .before .before .before .before .before .before .before .before .args .pointer) (c .before .before .before .before .before .before .before .before .before .before .before .before .before .before .before .before .before .before .before .before .args .copy) (34 + c .before .before .before .before .before .before .before .before .before .before .before .before .before .before .before .before .before .before .before .before .args .pointer + 2) _ (c .before .before .before .before .before .before .before .before .before .before .before .before .before .before .before .before .before .before .before .before .pre .1) (omega arith)
+copy-half-requires-6 c κs = let s = c .before .before .before .before .before .before .before .before .before .before .before .before .before .before .before .before .before .before .before .before in in-copy s (34 + s .args .pointer + 2) (omega arith)
 
 add-scale : tie.Need-add-scale
 add-scale c = omega (arith, c .before .before .before .before .before .before .before .before .before .before .before .before .before .before .before .before .before .before .before .before .before .pre .0)
 
 scale-requires : tie.Need-scale-requires
-scale-requires c κs = scaled-held (c .before .before .before .before .before .before .before .before .before .before .before .before .before .before .before .before .before .before .before .before .before .args .pointer) (c .before .before .before .before .before .before .before .before .before .before .before .before .before .before .before .before .before .before .before .before .before .args .copy) (24 + c .before .before .before .before .before .before .before .before .before .before .before .before .before .before .before .before .before .before .before .before .before .args .pointer + 2) _ (c .before .before .before .before .before .before .before .before .before .before .before .before .before .before .before .before .before .before .before .before .before .pre .1) (omega arith)
+scale-requires c κs = let s = c .before .before .before .before .before .before .before .before .before .before .before .before .before .before .before .before .before .before .before .before .before in in-scaled s (24 + s .args .pointer + 2) (omega arith)
 
 add-scale-2 : tie.Need-add-scale-2
 add-scale-2 c = omega (arith, c .before .before .before .before .before .before .before .before .before .before .before .before .before .before .before .before .before .before .before .before .before .before .pre .0)
 
 scale-requires-2 : tie.Need-scale-requires-2
-scale-requires-2 c κs = scaled-held (c .before .before .before .before .before .before .before .before .before .before .before .before .before .before .before .before .before .before .before .before .before .before .args .pointer) (c .before .before .before .before .before .before .before .before .before .before .before .before .before .before .before .before .before .before .before .before .before .before .args .copy) (26 + c .before .before .before .before .before .before .before .before .before .before .before .before .before .before .before .before .before .before .before .before .before .before .args .pointer + 2) _ (c .before .before .before .before .before .before .before .before .before .before .before .before .before .before .before .before .before .before .before .before .before .before .pre .1) (omega arith)
+scale-requires-2 c κs = let s = c .before .before .before .before .before .before .before .before .before .before .before .before .before .before .before .before .before .before .before .before .before .before in in-scaled s (26 + s .args .pointer + 2) (omega arith)
 
 add-origin : tie.Need-add-origin
 add-origin c = omega (arith, c .before .before .before .before .before .before .before .before .before .before .before .before .before .before .before .before .before .before .before .before .before .before .before .pre .0)
 
 origin-requires : tie.Need-origin-requires
-origin-requires c κs = scaled-held (c .before .before .before .before .before .before .before .before .before .before .before .before .before .before .before .before .before .before .before .before .before .before .before .args .pointer) (c .before .before .before .before .before .before .before .before .before .before .before .before .before .before .before .before .before .before .before .before .before .before .before .args .copy) (28 + c .before .before .before .before .before .before .before .before .before .before .before .before .before .before .before .before .before .before .before .before .before .before .before .args .pointer + 4) _ (c .before .before .before .before .before .before .before .before .before .before .before .before .before .before .before .before .before .before .before .before .before .before .before .pre .1) (omega arith)
+origin-requires c κs = let s = c .before .before .before .before .before .before .before .before .before .before .before .before .before .before .before .before .before .before .before .before .before .before .before in in-scaled s (28 + s .args .pointer + 4) (omega arith)
 
 returns : tie.Need-returns
 unfolding decode valueOf layout

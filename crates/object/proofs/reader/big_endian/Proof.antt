@@ -1,6 +1,6 @@
 -- `object::reader::big_endian` meets its contract. The invariant: the number is that of the `i` bytes passed, below 256^i.
 use mathlib.Core.Path.{_≡_}
-use Prim.Native.Nat.{_≤_, _-_, _+_}
+use Prim.Native.Nat.{_≤_, _-_}
 use native.Mathlib.Omega.{arith}
 use Rattle.object.specs.Layout.{ReadIs}
 use Rattle.object.specs.Reads.{read-none, read-more, room}

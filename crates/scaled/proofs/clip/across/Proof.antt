@@ -4,7 +4,7 @@ use mathlib.Core.Path.{_≡_, _∙_}
 use mir.Syntax.{w64}
 use mir.Val.{toZ, ofZ}
 use Rattle.object.specs.Measure.{quarters}
-use Rattle.signed.specs.Diff.{up, zarith}
+use Rattle.signed.specs.Diff.{zarith}
 use Rattle.signed.specs.Word.{rk}
 use Rattle.scaled.specs.Clip.{moved, kept, lossOf}
 use Rattle.scaled.specs.Range.{reads-edge, reads15, edge-le}

@@ -1,7 +1,6 @@
 -- `scaled::clip::clip_of` meets its contract. The fields are the definition's, and the law of its range carries over. Assumes nothing.
 use borrow.Author.Needs.{needs}
-use mathlib.Core.Path.{_≡_, refl, sym, ap, _∙_, subst}
-use mathlib.Core.Bool.{false}
+use mathlib.Core.Path.{_≡_, sym, ap, _∙_, subst}
 use Prim.Native.Nat.{_%_}
 use lib.Dec.{eqb}
 use Rattle.plan.specs.declared.types.Clip.{Clip}

@@ -1,6 +1,5 @@
--- `scaled::clip::cut_axis` meets its contract. Assumes nothing.
+-- `scaled::clip::cut_axis` meets its contract. Both cuts are read back where they are added. Assumes nothing.
 use borrow.Author.Needs.{needs}
-use mathlib.Core.Path.{_∙_}
 use Prim.Native.Nat.{_+_}
 use Rattle.signed.specs.Diff.{zdiff, zarith}
 use Rattle.signed.specs.Word.{rd, rdn}

@@ -1,4 +1,4 @@
--- `scaled::clip::far_cut` meets its contract. Assumes nothing.
+-- `scaled::clip::far_cut` meets its contract. The sums are read back, and are bounded. Assumes nothing.
 use borrow.Author.Needs.{needs}
 use Prim.Native.Nat.{_*_, _≤_, _^_}
 use lib.IntN.{pos, _+ℤ_, _-ℤ_}

@@ -1,4 +1,4 @@
--- `scaled::clip::height_of` meets its contract. Assumes nothing.
+-- `scaled::clip::height_of` meets its contract. Each way decides which is smaller. Assumes nothing.
 use borrow.Author.Needs.{needs}
 use Rattle.signed.specs.Diff.{zarith}
 use Rattle.signed.specs.Word.{rdn, rk}

@@ -1,12 +1,10 @@
 -- `scaled::clip::max_of` meets its contract. `shown` is what the image gives at the scale: the shift loses nothing. Assumes nothing.
 use borrow.Author.Needs.{needs}
-use mathlib.Core.Path.{_≡_, refl, _∙_}
+use mathlib.Core.Path.{_≡_, _∙_}
 use Prim.Native.Nat.{ℕ, _*_, _/_, _%_, _≤_, _^_}
 use native.Mathlib.Omega.{arith}
 use native.Mathlib.Nat.{mod-eq-of-lt, div-le-self}
-use lib.IntN.{ℤ, pos, _-ℤ_}
-use mir.Syntax.{w64}
-use mir.Val.{SFits, toZ, ofZ}
+use lib.IntN.{pos, _-ℤ_}
 use Rattle.signed.specs.Diff.{zdiff, zarith}
 use Rattle.signed.specs.Word.{rd, rdn, rk}
 use Rattle.scaled.specs.Clip.{greatest}
@@ -26,11 +24,11 @@ shown-is c = rw (mod-eq-of-lt {n = c .args .image * 1024} {m = 2 ^ 64} (omega ar
 shown-le : (c : tie.Start) → shown c ≤ 65535 * 1024
 shown-le c = omega (arith, div-le-self (c .args .image * 1024) (c .args .scale))
 
-cast-clear2 : tie.Need-cast-clear2
-cast-clear2 c = rw (shown-is c) (omega (zarith, shown-le c))
+cast-less : tie.Need-cast-less
+cast-less c = rw (shown-is c) (omega (zarith, shown-le c))
 
-sub-clear2 : tie.Need-sub-clear2
-sub-clear2 c = rw (shown-is c, rdn (shown c) (omega (arith, shown-le c))) (let h = shown-le c in simp zdiff (omega zarith))
+sub-less : tie.Need-sub-less
+sub-less c = rw (shown-is c, rdn (shown c) (omega (arith, shown-le c))) (let h = shown-le c in simp zdiff (omega zarith))
 
 clear2-requires : tie.Need-clear2-requires
 clear2-requires c κs = search needs
@@ -40,8 +38,8 @@ unfolding greatest
 returns c =
     let s = c .before in
     let l = shown-le s in
-    let e = rk _ (c .clear2 .ok) ∙ rw (rd (sub-clear2 s), shown-is s, rdn (shown s) (omega arith)) at (c .clear2 .ensures) in
-    rw e (refl, cleared (pos (shown s) -ℤ pos 1) (simp zdiff (omega zarith)) (simp zdiff (omega zarith)))
+    let e = rk _ (c .clear2 .ok) ∙ rw (rd (sub-less s), shown-is s, rdn (shown s) (omega arith)) at (c .clear2 .ensures) in
+    (e, rw e (cleared (pos (shown s) -ℤ pos 1) (simp zdiff (omega zarith)) (simp zdiff (omega zarith))))
 
 pub max-of-spec : {M : Type 1} → statement M
-max-of-spec = tie.close (tie.spec div-shown cast-clear2 sub-clear2 clear2-requires returns)
+max-of-spec = tie.close (tie.spec div-shown cast-less sub-less clear2-requires returns)

@@ -1,4 +1,4 @@
--- `scaled::clip::near_cut` meets its contract. Assumes nothing.
+-- `scaled::clip::near_cut` meets its contract. The difference is read back, and is bounded. Assumes nothing.
 use borrow.Author.Needs.{needs}
 use Prim.Native.Nat.{_*_, _≤_}
 use lib.IntN.{pos, _-ℤ_}

@@ -1,13 +1,12 @@
--- `scaled::clip::removed_of` meets its contract. Assumes nothing.
+-- `scaled::clip::removed_of` meets its contract. The difference is read back, and is bounded. Assumes nothing.
 use borrow.Author.Needs.{needs}
 use mir.Syntax.{w64}
 use mir.Val.{SFits}
-use mathlib.Core.Path.{_∙_}
 use Prim.Native.Nat.{_+_, _≤_}
-use lib.IntN.{ℤ, pos, _-ℤ_}
+use lib.IntN.{pos, _-ℤ_}
 use Rattle.signed.specs.Diff.{up, zdiff, zparts, zarith}
 use Rattle.signed.specs.Word.{rd, rdn, rk}
-use Rattle.scaled.specs.Clip.{greatest, removed}
+use Rattle.scaled.specs.Clip.{removed}
 use Rattle.scaled.proofs.clip.removed_of.Statement.{statement}
 use Rattle.scaled.proofs.clip.removed_of.Tie as tie
 

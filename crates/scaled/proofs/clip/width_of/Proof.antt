@@ -1,4 +1,4 @@
--- `scaled::clip::width_of` meets its contract. Assumes nothing.
+-- `scaled::clip::width_of` meets its contract. The difference is read back. Assumes nothing.
 use borrow.Author.Needs.{needs}
 use mathlib.Core.Path.{refl}
 use Rattle.signed.specs.Diff.{zdiff, zarith}

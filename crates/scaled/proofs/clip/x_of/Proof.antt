@@ -1,4 +1,4 @@
--- `scaled::clip::x_of` meets its contract. Assumes nothing.
+-- `scaled::clip::x_of` meets its contract. Each way reads back its sum. Assumes nothing.
 use borrow.Author.Needs.{needs}
 use mathlib.Core.Path.{refl}
 use Rattle.signed.specs.Diff.{zdiff, zarith}

@@ -1,9 +1,8 @@
--- `scaled::first::count_of` meets its contract. Assumes nothing.
+-- `scaled::first::count_of` meets its contract. The mask's remainder is below 1,024, so that the sums fit. Assumes nothing.
 use borrow.Author.Needs.{needs}
 use mathlib.Core.Path.{_≡_}
 use Prim.Native.Nat.{_<_}
 use lib.Dec.{lit<}
-use native.Mathlib.Omega.{arith}
 use Rattle.signed.specs.Diff.{zdiff, zarith}
 use Rattle.signed.specs.Floor.{modulo, modulo-lt}
 use Rattle.signed.specs.Word.{rd, rdn}

@@ -1,4 +1,4 @@
--- `scaled::first::frame_offset` meets its contract. Assumes nothing.
+-- `scaled::first::frame_offset` meets its contract. The quotient lies within its dividend, and the shift is a product. Assumes nothing.
 use mathlib.Core.Path.{refl}
 use mir.Syntax.{w64}
 use Rattle.signed.specs.Diff.{zdiff, zarith}

@@ -1,4 +1,4 @@
--- `scaled::first::image_hidden_of` meets its contract. Assumes nothing.
+-- `scaled::first::image_hidden_of` meets its contract. The law of the product bounds it. Assumes nothing.
 use mathlib.Core.Path.{refl}
 use native.Mathlib.Omega.{arith}
 use Rattle.scaled.specs.FirstLaw.{hidden-rows-le}

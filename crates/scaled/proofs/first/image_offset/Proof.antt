@@ -1,4 +1,4 @@
--- `scaled::first::image_offset` meets its contract. Assumes nothing.
+-- `scaled::first::image_offset` meets its contract. The difference is read back, and the shift is a product. Assumes nothing.
 use borrow.Author.Needs.{needs}
 use mathlib.Core.Path.{refl}
 use mir.Syntax.{w64}

@@ -1,12 +1,12 @@
--- `scaled::first::image_row` meets its contract. Assumes nothing.
+-- `scaled::first::image_row` meets its contract. The origin's rows lie within the origin, so that the sums fit. Assumes nothing.
 use borrow.Author.Needs.{needs}
 use mathlib.Core.Path.{_≡_, _∙_}
-use Prim.Native.Nat.{_/_, _^_, _≤_}
+use Prim.Native.Nat.{_/_}
 use lib.Dec.{lit<}
 use lib.IntN.{ℤ, pos, _+ℤ_}
 use mir.Syntax.{w64}
 use mir.Val.{SFits, toZ, ofZ}
-use Rattle.signed.specs.Diff.{up, dn, zdiff, zarith}
+use Rattle.signed.specs.Diff.{zdiff, zarith}
 use Rattle.signed.specs.Floor.{floorDiv, parts}
 use Rattle.signed.specs.Word.{rd, rdn, rk}
 use Rattle.scaled.specs.First.{imageRow}

@@ -1,4 +1,4 @@
--- `scaled::first::rows_left` meets its contract. Assumes nothing.
+-- `scaled::first::rows_left` meets its contract. The difference is read back. Assumes nothing.
 use borrow.Author.Needs.{needs}
 use Prim.Native.Nat.{_/_}
 use Rattle.signed.specs.Diff.{zdiff, zarith}

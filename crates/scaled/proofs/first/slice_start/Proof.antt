@@ -1,4 +1,4 @@
--- `scaled::first::slice_start` meets its contract. Assumes nothing.
+-- `scaled::first::slice_start` meets its contract. The product fits, as the contract asks. Assumes nothing.
 use borrow.Author.Needs.{needs}
 use Rattle.signed.specs.Word.{rd, rdn}
 use Rattle.scaled.specs.First.{sliceStart}

@@ -1,4 +1,4 @@
--- `scaled::measure::edge_of` meets its contract. Assumes nothing.
+-- `scaled::measure::edge_of` meets its contract. The cast widens, so it keeps the number. Assumes nothing.
 use borrow.Author.Needs.{needs}
 use mir.Syntax.{w32}
 use mir.ValLaws.{toZ-ofZ}

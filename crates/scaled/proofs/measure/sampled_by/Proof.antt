@@ -1,4 +1,4 @@
--- `scaled::measure::sampled_by` meets its contract. Assumes nothing.
+-- `scaled::measure::sampled_by` meets its contract. A scale is below 65,536, which bounds the product. Assumes nothing.
 use mathlib.Core.Path.{refl}
 use Rattle.scaled.specs.Number.{fits-mul, sampled-le}
 use Rattle.scaled.proofs.measure.sampled_by.Statement.{statement}

@@ -1,4 +1,4 @@
--- `scaled::start::origin_of` meets its contract. Assumes nothing.
+-- `scaled::start::origin_of` meets its contract. The sums are read back, outermost first. Assumes nothing.
 use borrow.Author.Needs.{needs}
 use mathlib.Core.Path.{refl}
 use Rattle.signed.specs.Diff.{zdiff, zarith}

@@ -1,4 +1,4 @@
--- `scaled::strip::bilerp_of` meets its contract. Assumes nothing.
+-- `scaled::strip::bilerp_of` meets its contract. A mask of one bit is a remainder by 2. Assumes nothing.
 use mathlib.Core.Path.{refl}
 use lib.Bits.{and-mask}
 use Prim.Native.Nat.{_/_}

@@ -1,4 +1,4 @@
--- `scaled::strip::bytes_of` meets its contract. Assumes nothing.
+-- `scaled::strip::bytes_of` meets its contract. A quotient is at most its dividend. Assumes nothing.
 use borrow.Author.Needs.{needs}
 use native.Mathlib.Omega.{arith}
 use native.Mathlib.Nat.{div-le-self}

@@ -1,8 +1,8 @@
--- `scaled::strip::column_of` meets its contract. Assumes nothing.
+-- `scaled::strip::column_of` meets its contract. A mask of the bits below a power of two is a remainder. Assumes nothing.
 use borrow.Author.Needs.{needs}
 use native.Mathlib.Omega.{arith}
 use native.Mathlib.Nat.{mod-lt}
-use Prim.Native.Nat.{_%_, _/_, _^_}
+use Prim.Native.Nat.{_/_, _^_}
 use mathlib.Core.Path.{refl}
 use Rattle.scaled.specs.Number.{mask-is}
 use Rattle.scaled.specs.Strip.{shiftOf}

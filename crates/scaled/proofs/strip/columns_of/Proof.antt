@@ -1,4 +1,4 @@
--- `scaled::strip::columns_of` meets its contract. Assumes nothing.
+-- `scaled::strip::columns_of` meets its contract. Each call's result is the definition's number. Assumes nothing.
 use borrow.Author.Needs.{needs}
 use native.Mathlib.Omega.{arith}
 use mathlib.Core.Path.{_∙_}

@@ -1,4 +1,4 @@
--- `scaled::strip::line_of` meets its contract. Assumes nothing.
+-- `scaled::strip::line_of` meets its contract. Each call's result is the definition's number. Assumes nothing.
 use borrow.Author.Needs.{needs}
 use native.Mathlib.Omega.{arith}
 use native.Mathlib.Nat.{div-le-self}

@@ -1,9 +1,7 @@
--- `scaled::strip::max_slice_of` meets its contract. Assumes nothing.
+-- `scaled::strip::max_slice_of` meets its contract. Each way decides the test. Assumes nothing.
 use borrow.Author.Needs.{needs}
 use borrow.Author.Tests.{eq-eqb, ne-eqb}
 use native.Mathlib.Omega.{arith}
-use native.Mathlib.Nat.{min-le-right}
-use mathlib.Core.Path.{refl}
 use Rattle.scaled.specs.Strip.{maxSlice}
 use Rattle.scaled.proofs.strip.max_slice_of.Statement.{statement}
 use Rattle.scaled.proofs.strip.max_slice_of.Tie as tie

@@ -1,8 +1,8 @@
--- `scaled::strip::rows_of` meets its contract. Assumes nothing.
+-- `scaled::strip::rows_of` meets its contract. Each call's result is the definition's number. Assumes nothing.
 use borrow.Author.Needs.{needs}
 use native.Mathlib.Omega.{arith}
-use mathlib.Core.Path.{_≡_, refl, ap, _∙_}
-use Prim.Native.Nat.{ℕ, _+_, _-_, _*_, _/_, _^_}
+use mathlib.Core.Path.{_≡_, ap}
+use Prim.Native.Nat.{ℕ, _*_, _/_}
 use Rattle.scaled.specs.Range.{extent-le}
 use Rattle.scaled.specs.Strip.{rowsOf}
 use Rattle.scaled.specs.StripLaw.{rows-le}

@@ -1,4 +1,4 @@
--- `scaled::strip::s_of` meets its contract. Assumes nothing.
+-- `scaled::strip::s_of` meets its contract. Each way reads back the number that it casts. Assumes nothing.
 use borrow.Author.Needs.{needs}
 use Prim.Native.Nat.{_+_}
 use Rattle.signed.specs.Diff.{zdiff, zarith}

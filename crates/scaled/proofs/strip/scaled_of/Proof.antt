@@ -1,11 +1,11 @@
 -- `scaled::strip::scaled_of` meets its contract. The fields are the definition's, and the law of its ranges carries over. Assumes nothing.
 use borrow.Author.Needs.{needs}
-use native.Mathlib.Omega.{arith}
 use mathlib.Core.Path.{_≡_, sym, ap, subst, _∙_}
-use Prim.Native.Nat.{_+_}
+use Prim.Native.Nat.{_+_, _%_}
 use mir.Syntax.{w64}
 use mir.Val.{toZ, ofZ}
 use Rattle.signed.specs.Word.{rk}
+use Rattle.object.specs.Measure.{sampledBy}
 use Rattle.plan.specs.declared.types.Scaled.{Scaled}
 use Rattle.plan.specs.Scaled.{scaledOf, slicesBad}
 use Rattle.plan.specs.Sound.{SoundScaled}
@@ -54,6 +54,9 @@ scaled c =
       s = toZ w64 (ofZ w64 (k .s));
     }
 
+s-is : (c : tie.After-struct-told) → (scaled c) .s ≡ sOf (c .before .before .before .before .before .before .args .c .flip) (c .before .before .before .before .before .before .args .i .«image_x» % shiftOf (c .before .before .before .before .before .before .args .bg .«image_siz»)) (sampledBy (c .before .before .before .before .before .before .args .c .width) (c .before .before .before .before .before .before .args .bg .«scale_w» .0))
+s-is c = rk (c .before .before .before .columns-of .result .s) (c .struct-told .given .1 .1 .1 .0 .1) ∙ c .before .before .before .columns-of .ensures .s
+
 scaled-is : (c : tie.After-struct-told) → scaled c ≡ scaledOf (c .before .before .before .before .before .before .args .bg) (c .before .before .before .before .before .before .args .mode) (c .before .before .before .before .before .before .args .address) (c .before .before .before .before .before .before .args .c) (c .before .before .before .before .before .before .args .i)
 unfolding scaledOf shiftOf maxSlice lineOf splitOf sOf
 scaled-is c =
@@ -78,7 +81,7 @@ scaled-is c =
       «frame_rows» = r .frame-rows j;
       stride = k .stride j;
       «x_offset» = k .x-offset j;
-      s = (rk (c .before .before .before .columns-of .result .s) (c .struct-told .given .1 .1 .1 .0 .1) ∙ k .s) j;
+      s = s-is c j;
     }
 
 returns : tie.Need-returns

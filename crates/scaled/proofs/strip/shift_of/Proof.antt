@@ -1,4 +1,4 @@
--- `scaled::strip::shift_of` meets its contract. Assumes nothing.
+-- `scaled::strip::shift_of` meets its contract. A shift is a quotient by a power of two. Assumes nothing.
 use borrow.Author.Needs.{needs}
 use mathlib.Core.Path.{refl}
 use Rattle.scaled.specs.Number.{shift-range}

@@ -1,0 +1,150 @@
+// The passes: those without a line are passed over, and one that draws starts its load.
+ghost use mathlib.Core.Path.{_≡_};
+ghost use Prim.Native.Nat.{_+_, _*_, _≤_, _<_, _^_};
+ghost use lib.IntN.{pos, negℤ};
+ghost use lib.Signed.{_≤ℤ_};
+ghost use Rattle.signed.specs.Diff.{up};
+ghost use Rattle.object.specs.Range.{Within};
+ghost use Rattle.plan.specs.Out.{planOut};
+ghost use Rattle.plan.specs.Sound.{SoundScaled};
+ghost use Rattle.plan.specs.Scaled.{drawOf, leftAfter, linesOf, rowsOf, nextPass, afterDraw};
+ghost use Rattle.passes.specs.Coming.{passesOf};
+ghost use Rattle.passes.specs.Sound.{SoundWalk, SoundRect, Runs, Reaches, cutLines, cutRows, dueLines};
+use crate::load::load_1cyc;
+use crate::rows::less;
+use crate::rows::plus;
+use crate::rows::sum;
+use crate::rows::times;
+use crate::sums::advance;
+use crate::types::Moved;
+use crate::types::Part;
+use crate::types::Place;
+use crate::types::Reached;
+use object::Verdict;
+use plan::Scaled;
+use plan::Source;
+use plan::Walk;
+
+// The whole lines that the count has come to.
+fn lines_due(count: i64) -> u64
+    requires { ⌜ count ≤ℤ pos (2 ^ 31) ⌝ }
+    ensures { λ r. ⌜ (r ≡ dueLines count) × (r ≤ 2 ^ 21) ⌝ }
+{
+    signed::positive(signed::shift10(count))
+}
+
+// The walk before the next pass.
+fn next_walk(z: Scaled, y: u64, left: i64, count: i64, source: Source) -> Walk
+    requires { ⌜ SoundScaled z ⌝ }
+    requires { ⌜ Within 61 count ⌝ }
+    ensures { λ r. ⌜ r ≡ nextPass z y left count source ⌝ }
+{
+    let count = plus(count, z.frame_rows);
+    let rows = z.image_rows as i64;
+    Walk {
+        frame_y: y,
+        frame_remain: left,
+        count,
+        slice_rows: rows,
+        t: 0,
+        source,
+    }
+}
+
+// The lines of a pass, fewer at the frame's end.
+fn cut_lines(draw: u64, left: i64) -> u64
+    requires { ⌜ (draw ≤ 2 ^ 21) × Within 40 left ⌝ }
+    ensures { λ r. ⌜ r ≡ cutLines draw left ⌝ }
+{
+    if left < 0 {
+        signed::positive(plus(left, draw))
+    } else {
+        draw
+    }
+}
+
+// The rows of a pass, fewer at the frame's end.
+fn cut_rows(z: Scaled, rows: i64, left: i64) -> i64
+    requires { ⌜ SoundScaled z ⌝ }
+    requires { ⌜ (Within 43 rows) × Within 40 left ⌝ }
+    ensures { λ r. ⌜ r ≡ cutRows z rows left ⌝ }
+{
+    if left < 0 {
+        let over = signed::shift10(times(left, z.scale_h));
+        let cut = plus(sum(rows, over), 1);
+        let most = z.image_rows as i64;
+        if cut <= most { cut } else { most }
+    } else {
+        rows
+    }
+}
+
+// A pass that draws.
+fn draw(z: Scaled, w: Walk) -> Reached
+    requires { ⌜ Runs z w ⌝ }
+    requires { ⌜ 1 ≤ drawOf w ⌝ }
+    ensures { λ r. ⌜ Reaches (planOut (passesOf z w)) (14 * up (w .«frame_remain»)) r ⌝ }
+{
+    let draw = lines_due(w.count);
+    let left = less(w.frame_remain, draw);
+    let lines = cut_lines(draw, left);
+    let rows = cut_rows(z, w.slice_rows, left);
+    let source = w.source;
+    let part = Part {
+        pointer: 0,
+        rows: 0,
+        destination: 0,
+        width: 0,
+    };
+    load_1cyc(Place {
+        scaled: z,
+        walk: w,
+        rows,
+        lines,
+        part,
+        spare: 0,
+        next: source,
+    })
+}
+
+// The next pass that draws, from a walk with lines left.
+fn running(z: Scaled, walk: Walk) -> Reached
+    requires { ⌜ Runs z walk ⌝ }
+    ensures { λ r. ⌜ Reaches (planOut (passesOf z walk)) (14 * up (walk .«frame_remain»)) r ⌝ }
+{
+    let mut w = walk;
+    while lines_due(w.count) == 0 {
+        let source = w.source;
+        let Moved::To(next) = advance(z, source, w.slice_rows) else {
+            return Reached::Ended(Verdict::Address);
+        };
+        w = next_walk(z, w.frame_y, w.frame_remain, w.count, next);
+    }
+    draw(z, w)
+}
+
+// The next pass that draws, or the end.
+pub fn next_pass(z: Scaled, w: Walk) -> Reached
+    requires { ⌜ SoundScaled z ⌝ }
+    requires { ⌜ (pos 1 ≤ℤ w .«frame_remain» → SoundWalk w) ⌝ }
+    ensures { λ r. ⌜ Reaches (planOut (passesOf z w)) (14 * up (w .«frame_remain»)) r ⌝ }
+{
+    let remain = w.frame_remain;
+    if remain <= 0 {
+        return Reached::Ended(Verdict::Finished);
+    }
+    running(z, w)
+}
+
+// The walk after a pass that has drawn.
+pub fn drawn(p: Place) -> Walk
+    requires { ⌜ SoundRect p ⌝ }
+    ensures { λ r. ⌜ r ≡ afterDraw (p .scaled) (p .walk) (drawOf (p .walk)) (p .lines) (p .next) ⌝ }
+{
+    let w = p.walk;
+    let draw = lines_due(w.count);
+    let left = less(w.frame_remain, draw);
+    let y = w.frame_y + p.lines;
+    let count = signed::signed_low10(w.count) as i64;
+    next_walk(p.scaled, y, left, count, p.next)
+}
