@@ -10,14 +10,14 @@ use Rattle.signed.specs.Floor.{floorDiv, modulo}
 use Rattle.object.specs.declared.types.Verdict.{Verdict}
 use Rattle.object.specs.declared.types.Verdict.the-variants as verdict
 use Rattle.plan.specs.declared.types.Entry.{Entry}
-use Rattle.plan.specs.declared.types.Entry.the-variants.{Tile, Size}
+use Rattle.plan.specs.declared.types.Entry.the-variants.{Image, Tile, Size}
 use Rattle.plan.specs.declared.types.Scaled.{Scaled}
 use Rattle.plan.specs.declared.types.Source.{Source}
 use Rattle.plan.specs.declared.types.Walk.{Walk}
 use Rattle.plan.specs.Out.{Out, Plan, more, _>>=_, _>>_, yield, emit, refuse, planOut}
 use Rattle.plan.specs.Load.{loadTile, sourceAddress}
 use Rattle.plan.specs.Next.{ended}
-use Rattle.plan.specs.Scaled.{tile7, loadPart, loadRows, load1cycTile, fromTop, splitRow, upToEnd, advance, load1cyc, drawOf, rectOf, afterDraw, passes}
+use Rattle.plan.specs.Scaled.{sizeOf, fieldOf, tile7, loadPart, loadRows, load1cycTile, fromTop, splitRow, upToEnd, advance, load1cyc, drawOf, rectOf, afterDraw, passes}
 use Rattle.passes.specs.declared.types.Sum.{Sum}
 use Rattle.passes.specs.declared.types.Sum.the-variants as sum
 use Rattle.passes.specs.declared.types.Moved.{Moved}
@@ -84,6 +84,10 @@ passOut z w lines o = planOut (o >>= (λ source. drawn z w lines source))
 -- R 336–351: tile 0, for the whole plan
 abbrev pub tile0 : Scaled → Entry
 tile0 z = Tile 0 (z .fmt) (z .siz) (z .line % 2 ^ 16) 0 (z .palette) 1 1 15 15
+
+-- R 148: the texture image of a part
+abbrev pub imageOf : Scaled → ℕ → Entry
+imageOf z pointer = Image 0 (sizeOf z) (fieldOf z) pointer
 
 -- the part that is given
 abbrev pub partOut : Place → Out (Unit {0})

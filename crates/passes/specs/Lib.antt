@@ -7,3 +7,4 @@ pub mod Loads
 pub mod Kept
 pub mod Enter
 pub mod Going
+pub mod Given

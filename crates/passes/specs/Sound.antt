@@ -1,7 +1,7 @@
 -- The ranges that a scaled walk keeps, so that no sum overflows, and how many entries are still to come at the most.
 -- Assumes nothing.
 use mathlib.Core.Path.{_≡_}
-use Prim.Native.Nat.{ℕ, _+_, _-_, _*_, _/_, _^_, _≤_, _<_}
+use Prim.Native.Nat.{ℕ, suc, _+_, _-_, _*_, _/_, _^_, _≤_, _<_}
 use mathlib.Core.Bool.{cond}
 use lib.IntN.{ℤ, pos, negℤ, _+ℤ_, _*ℤ_}
 use lib.Signed.{_≤ℤ_, ltZ}
@@ -12,7 +12,12 @@ use Rattle.object.specs.Range.{Within}
 use Rattle.plan.specs.declared.types.Scaled.{Scaled}
 use Rattle.plan.specs.declared.types.Source.{Source}
 use Rattle.plan.specs.declared.types.Walk.{Walk}
-use Rattle.plan.specs.Out.{Plan}
+use mathlib.Core.List.{List, [], _∷_}
+use Rattle.object.specs.declared.types.Verdict.the-variants as verdict
+use Rattle.plan.specs.declared.types.Clip.{Clip}
+use Rattle.plan.specs.Next.{cons, ended}
+use Rattle.plan.specs.Out.{Out, Plan, emit}
+use Rattle.plan.specs.Out.Out.{stop}
 use Rattle.plan.specs.Sound.{SoundScaled}
 use Rattle.plan.specs.Scaled.{drawOf, leftAfter, linesOf, rowsOf, afterDraw}
 use Rattle.passes.specs.declared.types.Part.{Part}
@@ -24,6 +29,10 @@ use Rattle.passes.specs.declared.types.Place.{Place}
 use Rattle.passes.specs.declared.types.Reached.{Reached}
 use Rattle.passes.specs.declared.types.Reached.the-variants as reached
 use Rattle.passes.specs.declared.types.Split.{Split}
+use Rattle.passes.specs.declared.types.Loaded.{Loaded}
+use Rattle.passes.specs.declared.types.Loaded.the-variants as loaded
+use Rattle.passes.specs.declared.types.ScaledNext.{ScaledNext}
+use Rattle.passes.specs.declared.types.ScaledNext.the-variants as next
 use Rattle.passes.specs.Coming.{loadableOf, splitFrom, splitWidth, comingReached}
 
 -- a walk before a pass. Each pass lowers 64 × lines left − count / 16, and `remain` by 512 rows at the most: `low` ties the two together
@@ -139,3 +148,18 @@ pub record Reaches (plan : Plan) (n : ℕ) (r : Reached) : Type 0 where
   pub is : comingReached r ≡ plan
   pub sound : soundReached r
   pub left : leftReached r ≤ n
+
+-- a load's answer as a part of a plan
+abbrev pub loadedOut : Loaded → Out (Unit {0})
+loadedOut (loaded.Entry e) = emit e
+loadedOut (loaded.Refused e) = stop [] (e ∷ []) verdict.Address
+
+-- what a step answers is the first of the plan, and what it reaches is the rest
+abbrev pub Gave : Plan → ℕ → ScaledNext → Type 0
+Gave plan n (next.Entry e r) = (plan ≡ cons e (comingReached r)) × (soundReached r × (suc (leftReached r) ≤ n))
+Gave plan n (next.Refused e) = plan ≡ ended (e ∷ []) verdict.Address
+
+-- a clipped frame that is not empty
+pub record ClipIn (c : Clip) : Type 0 where
+  pub y : c .y ≤ 8192
+  pub height : c .height ≤ 4092

@@ -2,13 +2,18 @@
 mod load;
 mod rows;
 mod sums;
+mod step;
 mod types;
 mod walk;
+pub use step::scaled_next;
+pub use step::scaled_start;
+pub use types::Loaded;
 pub use types::Moved;
 pub use types::Part;
 pub use types::Piece;
 pub use types::Place;
 pub use types::Reached;
 pub use types::ScaledNext;
+pub use types::Split;
 pub use types::Stage;
 pub use types::Sum;

@@ -94,7 +94,7 @@ fn back(z: Scaled, odd: u64, pointer: u64) -> Sum
 }
 
 // After the rows up to the image's end: the move, and the rectangle.
-fn moved(p: Place) -> Reached
+pub fn moved(p: Place) -> Reached
     requires { ⌜ SoundPass p ⌝ }
     ensures { λ r. ⌜ Reaches (passFrom p (afterPart Rest p)) (1 + leftPass p) r ⌝ }
 {

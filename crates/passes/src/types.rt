@@ -69,6 +69,12 @@ pub enum Reached {
     Ended(Verdict),
 }
 
+// The entry of a load, or the size that a refused load has set.
+pub enum Loaded {
+    Entry(Entry),
+    Refused(Entry),
+}
+
 // What one step answers: an entry and where the plan stands then; or a refused load, with the size that it has set.
 pub enum ScaledNext {
     Entry(Entry, Reached),

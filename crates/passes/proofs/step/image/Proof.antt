@@ -1,0 +1,16 @@
+-- `passes::step::image` meets its contract: the literal is the definition's. Assumes nothing.
+use borrow.Author.Needs.{needs}
+use Rattle.passes.proofs.step.image.Statement.{statement}
+use Rattle.passes.proofs.step.image.Tie as tie
+
+load-size-requires : tie.Need-load-size-requires
+load-size-requires c κs = search needs
+
+width-field-requires : tie.Need-width-field-requires
+width-field-requires c κs = c .before .pre .stride′
+
+returns : tie.Need-returns
+returns c = rw (c .width-field .ensures, c .before .load-size .ensures .0)
+
+pub image-spec : {M : Type 1} → statement M
+image-spec = tie.close (tie.spec load-size-requires width-field-requires returns)

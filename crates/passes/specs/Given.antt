@@ -1,0 +1,139 @@
+-- What each stage gives: the entry is the first of what is to come, and what is reached is the rest.
+-- Assumes nothing.
+use mathlib.Core.Path.{_≡_, refl, sym, ap, _∙_}
+use mathlib.Core.List.{List, [], _∷_, _++_}
+use Prim.Native.Nat.{ℕ, suc, _+_, _-_, _*_, _/_, _^_, _≤_, _<_}
+use native.Mathlib.Omega.{arith}
+use native.Mathlib.Nat.{mul-le-mul}
+use lib.IntN.{ℤ, pos, negsuc, negℤ, _+ℤ_, _-ℤ_, _*ℤ_}
+use lib.Signed.{_≤ℤ_}
+use Rattle.signed.specs.Diff.{up, dn, zdiff, zparts, zarith}
+use Rattle.object.specs.declared.types.Verdict.the-variants as verdict
+use Rattle.plan.specs.declared.types.Entry.{Entry}
+use Rattle.plan.specs.declared.types.Entry.the-variants.{Size}
+use Rattle.plan.specs.declared.types.Scaled.{Scaled}
+use Rattle.plan.specs.declared.types.Source.{Source}
+use Rattle.plan.specs.declared.types.Walk.{Walk}
+use Rattle.plan.specs.declared.types.Clip.{Clip}
+use Rattle.plan.specs.declared.types.First.{First}
+use Rattle.plan.specs.Out.{Out, more, _>>=_, _>>_, yield, refuse, emit, planOut}
+use Rattle.plan.specs.Out.Out.{go, stop}
+use Rattle.plan.specs.Laws.{more-nil}
+use Rattle.plan.specs.Load.{sourceAddress}
+use Rattle.plan.specs.Next.{cons, ended}
+use Rattle.plan.specs.Sound.{SoundScaled, SoundFirst}
+use Rattle.plan.specs.Scaled.{tile7, loadPart, loadRows, rectOf, advance, drawOf, leftAfter, afterDraw, firstPass, passes, scaledPlan}
+use Rattle.passes.specs.declared.types.Piece.{Piece}
+use Rattle.passes.specs.declared.types.Piece.the-variants as piece
+use Rattle.passes.specs.declared.types.Stage.the-variants as stage
+use Rattle.passes.specs.declared.types.Place.{Place}
+use Rattle.passes.specs.declared.types.Reached.{Reached}
+use Rattle.passes.specs.declared.types.Reached.the-variants as reached
+use Rattle.passes.specs.declared.types.ScaledNext.the-variants as next
+use Rattle.passes.specs.Coming.{passesOf, pieceOut, drawn, passFrom, tile0, imageOf, partOut, afterPart, comingScaled}
+use Rattle.passes.specs.Loads.{emit-first, emit-plan, then-assoc, after-yield, after-refuse}
+use Rattle.passes.specs.Sound.{SoundWalk, SoundPass, SoundPiece, SoundRect, SoundStart, ClipIn, Reaches, Gave, leftAt, leftReached, leftPass, afterPiece}
+use Rattle.passes.specs.Enter.{ended-as}
+
+-- an entry in front of a pass
+pass-first : (p : Place) (e : Entry) (o : Out Source) → passFrom p (emit e >> o) ≡ cons e (passFrom p o)
+pass-first p e o = emit-first e o (λ source. drawn (p .scaled) (p .walk) (p .lines) source)
+
+module _ (p : Place) where
+  pub give-first : (e : Entry) → e ≡ tile7 (p .scaled) (pos 0) → SoundStart p → Gave (comingScaled stage.First p) (leftAt stage.First p) (next.Entry e (reached.At stage.Second p))
+  unfolding comingScaled
+  give-first e i h = (rw i (emit-plan (tile7 (p .scaled) (pos 0)) (emit (tile0 (p .scaled)) >> (emit (Size 0 0 0 0 0) >> passesOf (p .scaled) (p .walk)))), (h, omega arith))
+
+  pub give-second : (e : Entry) → e ≡ tile0 (p .scaled) → SoundStart p → Gave (comingScaled stage.Second p) (leftAt stage.Second p) (next.Entry e (reached.At stage.Third p))
+  unfolding comingScaled
+  give-second e i h = (rw i (emit-plan (tile0 (p .scaled)) (emit (Size 0 0 0 0 0) >> passesOf (p .scaled) (p .walk))), (h, omega arith))
+
+  pub give-third : (r : Reached) → Reaches (planOut (passesOf (p .scaled) (p .walk))) (14 * up (p .walk .«frame_remain»)) r → Gave (comingScaled stage.Third p) (leftAt stage.Third p) (next.Entry (Size 0 0 0 0 0) r)
+  unfolding comingScaled
+  give-third r g = let l = g .left in (emit-plan (Size 0 0 0 0 0) (passesOf (p .scaled) (p .walk)) ∙ ap (cons (Size 0 0 0 0 0)) (sym (g .is)), (g .sound, omega arith))
+
+  module _ (k : Piece) where
+    pub give-tile : (e : Entry) → e ≡ tile7 (p .scaled) (p .part .destination) → SoundPiece p → Gave (comingScaled (stage.Tile k) p) (leftAt (stage.Tile k) p) (next.Entry e (reached.At (stage.Image k) p))
+    unfolding comingScaled
+    give-tile e i h = (rw i (pass-first p (tile7 (p .scaled) (p .part .destination)) (partOut p >> afterPart k p)), (h, omega arith))
+
+    pub give-image : (e : Entry) → e ≡ imageOf (p .scaled) (p .part .pointer) → SoundPiece p → Gave (comingScaled (stage.Image k) p) (leftAt (stage.Image k) p) (next.Entry e (reached.At (stage.Load k) p))
+    unfolding comingScaled loadPart
+    give-image e i h =
+        (rw i (ap (passFrom p) (then-assoc (emit (imageOf (p .scaled) (p .part .pointer))) (loadRows (p .scaled) (p .part .pointer) (p .part .rows) (p .part .width)) (afterPart k p)) ∙ pass-first p (imageOf (p .scaled) (p .part .pointer)) (loadRows (p .scaled) (p .part .pointer) (p .part .rows) (p .part .width) >> afterPart k p)), (h, omega arith))
+
+    pub give-load : (e : Entry) (r : Reached) → emit e ≡ loadRows (p .scaled) (p .part .pointer) (p .part .rows) (p .part .width) → Reaches (passFrom p (afterPart k p)) (afterPiece k + leftPass p) r
+        → Gave (comingScaled (stage.Load k) p) (leftAt (stage.Load k) p) (next.Entry e r)
+    unfolding comingScaled
+    give-load e r i g = let l = g .left in (rw (← i) (pass-first p e (afterPart k p)) ∙ ap (cons e) (sym (g .is)), (g .sound, omega arith))
+
+    pub refuse-load : (e : Entry) → stop [] (e ∷ []) verdict.Address ≡ loadRows (p .scaled) (p .part .pointer) (p .part .rows) (p .part .width)
+        → Gave (comingScaled (stage.Load k) p) (leftAt (stage.Load k) p) (next.Refused e)
+    unfolding comingScaled
+    refuse-load e i = rw (← i)
+
+  pub give-last : (e : Entry) (r : Reached) → e ≡ tile7 (p .scaled) (pos 0) → Reaches (passFrom p (afterPart piece.Rest p)) (1 + leftPass p) r → Gave (comingScaled stage.Last p) (leftAt stage.Last p) (next.Entry e r)
+  unfolding comingScaled pieceOut
+  give-last e r i g = let l = g .left in (ap (λ (x : Entry). passFrom p (emit x >> advance (p .scaled) (p .walk .source) (p .rows))) (sym i) ∙ pass-first p e (advance (p .scaled) (p .walk .source) (p .rows)) ∙ ap (cons e) (sym (g .is)), (g .sound, omega arith))
+
+  pub give-rect : (e : Entry) (n : Walk) (r : Reached) → e ≡ rectOf (p .scaled) (p .walk) (p .lines) → n ≡ afterDraw (p .scaled) (p .walk) (drawOf (p .walk)) (p .lines) (p .next) → SoundRect p
+      → Reaches (planOut (passesOf (p .scaled) n)) (14 * up (n .«frame_remain»)) r → Gave (comingScaled stage.Rect p) (leftAt stage.Rect p) (next.Entry e r)
+  unfolding comingScaled drawn
+  give-rect e n r i j h g =
+      let l = g .left in
+      let k = fewer (p .walk .«frame_remain») (drawOf (p .walk)) (h .pass .draws) (h .pass .left) in
+      (ap (λ (x : Entry). planOut (emit x >> passesOf (p .scaled) (afterDraw (p .scaled) (p .walk) (drawOf (p .walk)) (p .lines) (p .next)))) (sym i) ∙ ap (λ (w : Walk). planOut (emit e >> passesOf (p .scaled) w)) (sym j) ∙ emit-plan e (passesOf (p .scaled) n) ∙ ap (cons e) (sym (g .is)), (g .sound, less (leftReached r) (ap (λ (w : Walk). up (w .«frame_remain»)) j) k l))
+    where
+      fewer : (v : ℤ) (d : ℕ) → 1 ≤ d → 1 ≤ up v → up (v -ℤ pos d) ≤ up v - 1
+      fewer (pos n) d a b = by n d a b
+        where
+          by : (n d : ℕ) → 1 ≤ d → 1 ≤ n → up (pos n -ℤ pos d) ≤ n - 1
+          by n d a b = simp zdiff (simp zparts (omega zarith))
+      fewer (negsuc n) d a b = absurd (omega arith)
+
+      less : (l : ℕ) → up (n .«frame_remain») ≡ up (leftAfter (p .walk) (drawOf (p .walk))) → up (leftAfter (p .walk) (drawOf (p .walk))) ≤ up (p .walk .«frame_remain») - 1 → l ≤ 14 * up (n .«frame_remain») → suc l ≤ 1 + leftPass p
+      less l a b c = omega arith
+
+three : (a b c : Entry) (o : Out (Unit {0})) → (emit a >> emit b >> emit c >> o) ≡ (emit a >> (emit b >> (emit c >> o)))
+three a b c (go es u) = refl
+three a b c (stop es l v) = refl
+
+-- the walk before the first pass
+module _ (z : Scaled) (c : Clip) (f : First) (zs : SoundScaled z) (fs : SoundFirst z f) (cs : ClipIn c) where
+  pub first-sound : (pointer : ℕ) → SoundWalk (firstPass z c f pointer)
+  first-sound pointer =
+      let a = fs .count in
+      let n = fs .image-row in
+      let k = fs .slice-rows in
+      record {
+        frame-y = omega (arith, cs .y, cs .height);
+        lines = omega (arith, cs .height);
+        count = omega zarith;
+        count′ = let b = fs .count′ in omega zarith;
+        slice-rows = fs .slice-rows;
+        slice-rows′ = fs .slice-rows′;
+        t = fs .t;
+        low = rw (low-is (z .«source_rows») (f .«image_row») n) (omega (arith, cs .height));
+        high = rw (high-is (z .«source_rows») (f .«image_row») n) (omega (zarith, zs .source-rows′, k));
+      }
+    where
+      low-is : (n r : ℕ) → r < n → dn (pos n -ℤ pos r) ≡ 0
+      low-is n r h = simp zdiff (simp zparts (omega zarith))
+
+      high-is : (n r : ℕ) → r < n → up (pos n -ℤ pos r) ≡ n - r
+      high-is n r h = simp zdiff (simp zparts (omega zarith))
+
+  -- R 321–352: three entries, then passes
+  module _ (p : Place) (pointer : ℕ) (iz : p .scaled ≡ z) (iw : p .walk ≡ firstPass z c f pointer) (e : yield pointer ≡ sourceAddress (z .address) (pos (z .stride * f .«image_row» + z .«x_offset»))) where
+    pub start-at : Reaches (planOut (scaledPlan z c f)) 16384 (reached.At stage.First p)
+    unfolding comingScaled scaledPlan passesOf
+    start-at =
+        record {
+          is = rw (iz, iw) (sym (ap planOut (after-yield (sourceAddress (z .address) (pos (z .stride * f .«image_row» + z .«x_offset»))) pointer _ e ∙ three (tile7 z (pos 0)) (tile0 z) (Size 0 0 0 0 0) (passes (65 * (c .height / 4)) z (firstPass z c f pointer)))));
+          sound = record { scaled = rw iz zs; walk = rw iw (first-sound pointer) };
+          left = rw iw (omega (arith, cs .height));
+        }
+
+  pub start-refused : refuse verdict.Address ≡ sourceAddress (z .address) (pos (z .stride * f .«image_row» + z .«x_offset»)) → Reaches (planOut (scaledPlan z c f)) 16384 (reached.Ended verdict.Address)
+  unfolding scaledPlan
+  start-refused e = ended-as 16384 (sym (ap planOut (after-refuse (sourceAddress (z .address) (pos (z .stride * f .«image_row» + z .«x_offset»))) verdict.Address _ e)))

@@ -1,0 +1,264 @@
+// One step of a scaled plan: the entry that is due, and where the plan stands after it.
+ghost use mathlib.Core.Path.{_≡_};
+ghost use mathlib.Core.Bool.{cond};
+ghost use Prim.Native.Nat.{_+_, _*_, _/_, _≤_, _<_, _^_};
+ghost use lib.Dec.{eqb};
+ghost use lib.IntN.{pos, _-ℤ_};
+ghost use Rattle.signed.specs.Cast.{u16};
+ghost use Rattle.object.specs.Range.{Within};
+ghost use Rattle.plan.specs.Out.{planOut};
+ghost use Rattle.plan.specs.Sound.{SoundScaled, SoundFirst};
+ghost use Rattle.plan.specs.Scaled.{tile7 as tile7Of, lrsOf, lrtOf, loadRows, rectOf, scaledPlan};
+ghost use Rattle.passes.specs.Coming.{tile0 as tile0Of, imageOf, comingScaled};
+ghost use Rattle.passes.specs.Sound.{SoundPass, SoundPart, ClipIn, soundAt, leftAt, Reaches, Gave, loadedOut};
+use crate::load::after_part;
+use crate::load::moved;
+use crate::rows::less;
+use crate::sums::source_address;
+use crate::types::Loaded;
+use crate::types::Part;
+use crate::types::Piece;
+use crate::types::Place;
+use crate::types::Reached;
+use crate::types::ScaledNext;
+use crate::types::Stage;
+use crate::types::Sum;
+use crate::walk::drawn;
+use crate::walk::next_pass;
+use object::Verdict;
+use plan::Clip;
+use plan::Entry;
+use plan::First;
+use plan::Scaled;
+use plan::Source;
+use plan::Walk;
+use tile::LoadRequest;
+
+// The loads' texels are of 16 bits, or of 32 for siz 3.
+fn load_size(siz: u8) -> u8
+    ensures { λ r. ⌜ (r ≡ cond (eqb siz 3) 3 2) × (r ≤ 3) ⌝ }
+{
+    if siz == 3 { 3 } else { 2 }
+}
+
+fn tile7(z: Scaled, destination: i64) -> Entry
+    ensures { λ r. ⌜ r ≡ tile7Of z destination ⌝ }
+{
+    Entry::Tile {
+        index: 7,
+        fmt: 0,
+        siz: load_size(z.siz),
+        line: (z.line % 65536) as u16,
+        tmem: signed::low16(destination),
+        palette: 0,
+        cms: 0,
+        cmt: 0,
+        masks: 0,
+        maskt: 0,
+    }
+}
+
+fn tile0(z: Scaled) -> Entry
+    ensures { λ r. ⌜ r ≡ tile0Of z ⌝ }
+{
+    Entry::Tile {
+        index: 0,
+        fmt: z.fmt,
+        siz: z.siz,
+        line: (z.line % 65536) as u16,
+        tmem: 0,
+        palette: z.palette,
+        cms: 1,
+        cmt: 1,
+        masks: 15,
+        maskt: 15,
+    }
+}
+
+// The width field of the loads' texture image.
+fn width_field(stride: u64) -> u16
+    requires { ⌜ stride ≤ 65535 ⌝ }
+    ensures { λ r. ⌜ r ≡ u16 (pos (stride / 2) -ℤ pos 1) ⌝ }
+{
+    signed::low16((stride / 2) as i64 - 1)
+}
+
+fn image(z: Scaled, pointer: u64) -> Entry
+    requires { ⌜ SoundScaled z ⌝ }
+    ensures { λ r. ⌜ r ≡ imageOf z pointer ⌝ }
+{
+    Entry::Image {
+        fmt: 0,
+        siz: load_size(z.siz),
+        width: width_field(z.stride),
+        address: pointer,
+    }
+}
+
+// A load's right bound.
+fn right(width: i64) -> u16
+    requires { ⌜ Within 47 width ⌝ }
+    ensures { λ r. ⌜ r ≡ lrsOf width ⌝ }
+{
+    signed::low16((width - 1) * 16)
+}
+
+// A load's lower bound; with 32 bits a load has one row.
+fn lower(z: Scaled, rows: i64) -> u16
+    requires { ⌜ Within 47 rows ⌝ }
+    ensures { λ r. ⌜ r ≡ lrtOf z rows ⌝ }
+{
+    if z.siz == 3 {
+        return 0;
+    }
+    signed::low16(rows * 4 - 1)
+}
+
+// The load of a part, or the size that a refused load has set.
+fn load(z: Scaled, q: Part) -> Loaded
+    requires { ⌜ SoundScaled z ⌝ }
+    requires { ⌜ SoundPart q ⌝ }
+    ensures { λ r. ⌜ loadedOut r ≡ loadRows z (q .pointer) (q .rows) (q .width) ⌝ }
+{
+    let lrs = right(q.width);
+    let lrt = lower(z, q.rows);
+    let field = width_field(z.stride);
+    match tile::load_request(load_size(z.siz), field, q.pointer, 0, 0, lrs, lrt) {
+        LoadRequest::Load {
+            words,
+            rows,
+            stride,
+            start,
+            length,
+        } => Loaded::Entry(Entry::Load {
+            index: 7,
+            uls: 0,
+            ult: 0,
+            lrs,
+            lrt,
+            words,
+            rows,
+            stride,
+            start,
+            length,
+        }),
+        LoadRequest::Overflow => Loaded::Refused(Entry::Size {
+            index: 7,
+            uls: 0,
+            ult: 0,
+            lrs,
+            lrt,
+        }),
+    }
+}
+
+// The rectangle of a pass, with the image row before its loads.
+fn rect(p: Place) -> Entry
+    requires { ⌜ SoundPass p ⌝ }
+    ensures { λ r. ⌜ r ≡ rectOf (p .scaled) (p .walk) (p .lines) ⌝ }
+{
+    let z = p.scaled;
+    let w = p.walk;
+    let source = w.source;
+    let y = w.frame_y;
+    let rows = z.source_rows as i64 - source.remain;
+    Entry::Rect {
+        tile: 0,
+        ulx: z.x,
+        uly: y * 4,
+        lrx: z.x_end,
+        lry: (y + p.lines) * 4,
+        uls: signed::signed16(z.s),
+        ult: signed::signed16(w.t as i64),
+        dsdx: signed::signed16(z.scale_w as i64),
+        dtdy: signed::signed16(z.scale_h as i64),
+        row: signed::rem_euclid(rows, z.source_rows),
+    }
+}
+
+fn load_step(k: Piece, p: Place) -> ScaledNext
+    requires { ⌜ soundAt (Stage.Load k) p ⌝ }
+    ensures { λ r. ⌜ Gave (comingScaled (Stage.Load k) p) (leftAt (Stage.Load k) p) r ⌝ }
+{
+    match load(p.scaled, p.part) {
+        Loaded::Entry(entry) => ScaledNext::Entry(entry, after_part(k, p)),
+        Loaded::Refused(size) => ScaledNext::Refused(size),
+    }
+}
+
+// What comes next of a scaled plan.
+pub fn scaled_next(stage: Stage, p: Place) -> ScaledNext
+    requires { ⌜ soundAt stage p ⌝ }
+    ensures { λ r. ⌜ Gave (comingScaled stage p) (leftAt stage p) r ⌝ }
+{
+    match stage {
+        Stage::First => ScaledNext::Entry(tile7(p.scaled, 0), Reached::At(Stage::Second, p)),
+        Stage::Second => ScaledNext::Entry(tile0(p.scaled), Reached::At(Stage::Third, p)),
+        Stage::Third => {
+            let size = Entry::Size {
+                index: 0,
+                uls: 0,
+                ult: 0,
+                lrs: 0,
+                lrt: 0,
+            };
+            ScaledNext::Entry(size, next_pass(p.scaled, p.walk))
+        }
+        Stage::Tile(k) => {
+            let q = p.part;
+            ScaledNext::Entry(
+                tile7(p.scaled, q.destination),
+                Reached::At(Stage::Image(k), p),
+            )
+        }
+        Stage::Image(k) => {
+            let q = p.part;
+            ScaledNext::Entry(
+                image(p.scaled, q.pointer),
+                Reached::At(Stage::Load(k), p),
+            )
+        }
+        Stage::Load(k) => load_step(k, p),
+        Stage::Last => ScaledNext::Entry(tile7(p.scaled, 0), moved(p)),
+        Stage::Rect => ScaledNext::Entry(rect(p), next_pass(p.scaled, drawn(p))),
+    }
+}
+
+// Where a scaled plan starts: its first address sum may be refused.
+pub fn scaled_start(z: Scaled, c: Clip, f: First) -> Reached
+    requires { ⌜ SoundScaled z ⌝ }
+    requires { ⌜ (SoundFirst z f) × ClipIn c ⌝ }
+    ensures { λ r. ⌜ Reaches (planOut (scaledPlan z c f)) 16384 r ⌝ }
+{
+    let offset = z.stride * f.image_row + z.x_offset;
+    let Sum::At(pointer) = source_address(z.address, offset as i64) else {
+        return Reached::Ended(Verdict::Address);
+    };
+    let remain = less(z.source_rows as i64, f.image_row);
+    let source = Source { pointer, remain };
+    let left = (c.height / 4) as i64;
+    let walk = Walk {
+        frame_y: c.y / 4,
+        frame_remain: left,
+        count: f.count,
+        slice_rows: f.slice_rows,
+        t: f.t,
+        source,
+    };
+    let part = Part {
+        pointer: 0,
+        rows: 0,
+        destination: 0,
+        width: 0,
+    };
+    let place = Place {
+        scaled: z,
+        walk,
+        rows: 0,
+        lines: 0,
+        part,
+        spare: 0,
+        next: source,
+    };
+    Reached::At(Stage::First, place)
+}
