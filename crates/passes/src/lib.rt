@@ -1,10 +1,11 @@
 // The walk of a scaled plan: passes, the parts of a load, and one step.
 mod load;
 mod rows;
-mod sums;
 mod step;
+mod sums;
 mod types;
 mod walk;
+
 pub use step::scaled_next;
 pub use step::scaled_start;
 pub use types::Loaded;

@@ -156,11 +156,7 @@ fn split(z: Scaled, source: Source) -> Split
     let odd = signed::rem_euclid(loadable, 2);
     let from = times(less(loadable, odd), z.line);
     let width = signed::floor_div(less(z.stride as i64, z.x_offset), 8);
-    Split {
-        odd,
-        from,
-        width,
-    }
+    Split { odd, from, width }
 }
 
 fn split_a(p: Place) -> Reached
@@ -235,7 +231,14 @@ fn from_top(lines: i64, p: Place) -> Reached
         return Reached::Ended(Verdict::Address);
     };
     let destination = times(less(source.remain, odd), z.line);
-    enter(Piece::Top, pointer, plus(rows, odd), destination, z.line as i64, p)
+    enter(
+        Piece::Top,
+        pointer,
+        plus(rows, odd),
+        destination,
+        z.line as i64,
+        p,
+    )
 }
 
 // What comes after a part.

@@ -213,10 +213,7 @@ pub fn scaled_next(stage: Stage, p: Place) -> ScaledNext
         }
         Stage::Image(k) => {
             let q = p.part;
-            ScaledNext::Entry(
-                image(p.scaled, q.pointer),
-                Reached::At(Stage::Load(k), p),
-            )
+            ScaledNext::Entry(image(p.scaled, q.pointer), Reached::At(Stage::Load(k), p))
         }
         Stage::Load(k) => load_step(k, p),
         Stage::Last => ScaledNext::Entry(tile7(p.scaled, 0), moved(p)),

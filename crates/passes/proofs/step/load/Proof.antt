@@ -2,8 +2,11 @@
 use borrow.Author.Needs.{needs}
 use mathlib.Core.Path.{_≡_, refl, sym, ap, _∙_}
 use lib.Dec.{lit≤, lit<}
+use Prim.Native.Nat.{ℕ}
+use Rattle.tile.specs.declared.load.LoadRequest.{LoadRequest}
+use Rattle.tile.specs.Load.{requestOf}
 use Rattle.plan.specs.Load.{loadTile, loadOut}
-use Rattle.signed.specs.Word.{rd}
+use Rattle.plan.specs.Scaled.{lrsOf, lrtOf, sizeOf, fieldOf}
 use Rattle.passes.specs.Comes.{read-in}
 use Rattle.passes.proofs.step.load.Statement.{statement}
 use Rattle.passes.proofs.step.load.Tie as tie
@@ -23,6 +26,16 @@ load-size-requires c κs = search needs
 load-request-requires : tie.Need-load-request-requires
 load-request-requires c κs = c .load-size .ensures .1
 
+-- the request and its bounds, as the definition has them
+right-is : (c : tie.After-right) → c .right .result ≡ lrsOf (c .before .before .args .q .width)
+right-is c = rw (read-in 47 (c .before .before .args .q .width) (lit≤ tt) (c .before .before .pre .1 .width)) at (c .right .ensures)
+
+lower-is : (c : tie.After-lower) → c .lower .result ≡ lrtOf (c .before .before .before .before .args .z) (c .before .before .before .before .args .q .rows)
+lower-is c = rw (read-in 47 (c .before .before .before .before .args .q .rows) (lit≤ tt) (c .before .before .before .before .pre .1 .rows)) at (c .lower .ensures)
+
+request-is : (c : tie.After-load-request) → c .load-request .result ≡ requestOf (sizeOf (c .before .before .before .before .before .before .before .args .z)) (fieldOf (c .before .before .before .before .before .before .before .args .z)) (c .before .before .before .before .before .before .before .args .q .pointer) 0 0 (c .before .before .before .before .before .right .result) (c .before .before .before .lower .result)
+request-is c = rw (c .before .before .width-field .ensures, c .before .load-size .ensures .0) at (c .load-request .ensures)
+
 enum-known-words : tie.Need-enum-known-words
 enum-known-words c = search needs
 
@@ -30,10 +43,14 @@ enum-told : tie.Need-enum-told
 enum-told c = search needs
 
 returns : tie.Need-returns
-returns c = ?
+unfolding loadTile loadOut
+returns c =
+    rw (← right-is (c .before .before .before .before .before .before .before .before), ← lower-is (c .before .before .before .before .before .before)) (ap (λ (q : LoadRequest). loadOut q 7 0 0 (c .before .before .before .before .before .before .before .before .right .result) (c .before .before .before .before .before .before .lower .result)) (sym (c .before .words .given .1) ∙ request-is (c .before .before .before)))
 
 returns-2 : tie.Need-returns-2
-returns-2 c = ?
+unfolding loadTile loadOut
+returns-2 c =
+    rw (← right-is (c .before .before .before .before .before .before .before), ← lower-is (c .before .before .before .before .before)) (ap (λ (q : LoadRequest). loadOut q 7 0 0 (c .before .before .before .before .before .before .before .right .result) (c .before .before .before .before .before .lower .result)) (sym (c .enum-told .given .1) ∙ request-is (c .before .before)))
 
 pub load-spec : {M : Type 1} → statement M
 load-spec =

@@ -1,66 +1,79 @@
+-- `passes::step::rect` meets its contract: each number is the definition's. Assumes nothing.
 use borrow.Author.Needs.{needs}
+use mathlib.Core.Path.{_≡_, refl, sym, ap, _∙_}
+use lib.Dec.{lit≤, lit<}
+use lib.IntN.{ℤ, pos, negℤ, _+ℤ_, _-ℤ_, _*ℤ_}
+use mir.Syntax.{w16, w64}
+use mir.ValLaws.{toZ-ofZ}
+use mir.Val.{toZ, ofZ}
+use Rattle.signed.specs.Word.{rd, rdn, rk}
+use native.Mathlib.Omega.{arith}
+use Rattle.signed.specs.Diff.{up, dn, zdiff, zparts, zarith}
+use Prim.Native.Nat.{_+_, _*_}
+use Rattle.passes.specs.Comes.{fits, difference-in, wider, read-in}
+use Rattle.passes.specs.Kept.{remain-in}
+use Rattle.passes.specs.Going.{lines-low}
+use Rattle.object.specs.Range.{Within}
 use Rattle.passes.proofs.step.rect.Statement.{statement}
 use Rattle.passes.proofs.step.rect.Tie as tie
-use Rattle.passes.proofs.step.rect.Reads as reads
-use Rattle.passes.proofs.step.rect.Lts as lts
-use Rattle.signed.proofs.rem_euclid.Reads as rem-euclid-reads
-use Rattle.signed.proofs.signed16.Reads as signed16-reads
 
--- src/step.rt:166:16
 cast-rows : tie.Need-cast-rows
 cast-rows c = search needs
 
--- src/step.rt:166:16
-sub-rows : tie.Need-sub-rows
-sub-rows c = ?
+remain-is : (c : tie.Start) → toZ w64 (ofZ w64 (c .args .p .walk .source .remain)) ≡ c .args .p .walk .source .remain
+remain-is c = read-in 43 _ (lit≤ tt) (remain-in (c .args .p .walk) (c .pre .walk))
 
--- src/step.rt:170:14
+rows-in : (s : tie.Start) → Within 44 (pos (s .args .p .scaled .«source_rows») -ℤ s .args .p .walk .source .remain)
+rows-in s =
+    let h = s .pre .scaled .source-rows′ in
+    difference-in 43 (pos (s .args .p .scaled .«source_rows»)) (s .args .p .walk .source .remain) (record { low = omega zarith; high = omega zarith }) (remain-in (s .args .p .walk) (s .pre .walk))
+
+sub-rows : tie.Need-sub-rows
+sub-rows c = let s = c .before .before .before .before .before .before in rw (rdn (s .args .p .scaled .«source_rows») (cast-rows (c .before .before) .sfits), remain-is s) (fits 44 _ (lit≤ tt) (rows-in s))
+
 mul-t8 : tie.Need-mul-t8
 mul-t8 c = search needs
 
--- src/step.rt:172:15
 add-t9 : tie.Need-add-t9
-add-t9 c = ?
+add-t9 c = let s = c .before .before .before .before .before .before .before in record { fits = omega (arith, s .pre .walk .frame-y, lines-low (s .args .p) (s .pre)) }
 
--- src/step.rt:172:14
 mul-t10 : tie.Need-mul-t10
-mul-t10 c = ?
+mul-t10 c = let s = c .before .before .before .before .before .before .before in record { fits = omega (arith, s .pre .walk .frame-y, lines-low (s .args .p) (s .pre)) }
 
--- src/step.rt:173:14
 signed16-requires : tie.Need-signed16-requires
 signed16-requires c κs = search needs
 
--- src/step.rt:174:31
 cast-signed16 : tie.Need-cast-signed16
 cast-signed16 c = search needs
 
--- src/step.rt:174:14
 signed16-requires-2 : tie.Need-signed16-requires-2
 signed16-requires-2 c κs = search needs
 
--- src/step.rt:175:32
 cast-signed16-2 : tie.Need-cast-signed16-2
-cast-signed16-2 c = ?
+cast-signed16-2 c = let h = c .before .before .before .before .before .before .before .before .before .before .before .before .pre .scaled .scale-w′ in record { sfits = omega arith }
 
--- src/step.rt:175:15
 signed16-requires-3 : tie.Need-signed16-requires-3
 signed16-requires-3 c κs = search needs
 
--- src/step.rt:176:32
 cast-signed16-3 : tie.Need-cast-signed16-3
-cast-signed16-3 c = ?
+cast-signed16-3 c = let h = c .before .before .before .before .before .before .before .before .before .before .before .before .before .before .pre .scaled .scale-h′ in record { sfits = omega arith }
 
--- src/step.rt:176:15
 signed16-requires-4 : tie.Need-signed16-requires-4
 signed16-requires-4 c κs = search needs
 
--- src/step.rt:177:14
 rem-euclid-requires : tie.Need-rem-euclid-requires
-rem-euclid-requires c κs = ?
+rem-euclid-requires c κs = let h = c .before .before .before .before .before .before .before .before .before .before .before .before .before .before .before .pre .scaled in (h .source-rows, omega (arith, h .source-rows′))
 
--- src/step.rt:158:1
 returns : tie.Need-returns
-returns c = ?
+returns c =
+    let s = c .before .before .before .before .before .before .before .before .before .before .before .before .before .before .before .before in
+    let z = s .args .p .scaled in
+    let us = toZ-ofZ w16 (c .before .before .before .before .before .before .before .signed16 .result) (record { sfits = c .before .before .before .before .before .before .before .signed16 .ok }) ∙ (rw (rk (z .s) (c .before .before .before .before .before .before .before .before .struct-told2 .given .1 .1 .1 .1 .1 .1 .1 .1 .1 .1 .1 .1 .1 .1 .1 .1 .0 .1)) at (c .before .before .before .before .before .before .before .signed16 .ensures)) in
+    let ut = toZ-ofZ w16 (c .before .before .before .before .before .signed162 .result) (record { sfits = c .before .before .before .before .before .signed162 .ok }) ∙ (rw (rdn (s .args .p .walk .t) (cast-signed16 (c .before .before .before .before .before .before) .sfits)) at (c .before .before .before .before .before .signed162 .ensures)) in
+    let dx = toZ-ofZ w16 (c .before .before .before .signed163 .result) (record { sfits = c .before .before .before .signed163 .ok }) ∙ (rw (rdn (z .«scale_w») (cast-signed16-2 (c .before .before .before .before) .sfits)) at (c .before .before .before .signed163 .ensures)) in
+    let dy = toZ-ofZ w16 (c .before .signed164 .result) (record { sfits = c .before .signed164 .ok }) ∙ (rw (rdn (z .«scale_h») (cast-signed16-3 (c .before .before) .sfits)) at (c .before .signed164 .ensures)) in
+    let r = rw (rd (sub-rows (c .before .before .before .before .before .before .before .before .before .before)), rdn (z .«source_rows») (cast-rows (c .before .before .before .before .before .before .before .before .before .before .before .before) .sfits), remain-is s) at (c .rem-euclid .ensures) in
+    rw (us, ut, dx, dy, r)
 
 pub rect-spec : {M : Type 1} → statement M
 rect-spec =

@@ -1,124 +1,106 @@
+-- `passes::step::scaled_next` meets its contract: each stage has its law. Assumes nothing.
 use borrow.Author.Needs.{needs}
+use mathlib.Core.Path.{_≡_, refl, sym, ap, _∙_}
+use Rattle.passes.specs.Given.{give-first, give-second, give-third, give-tile, give-image, give-last, give-rect}
+use Rattle.signed.specs.Word.{rd, rk}
+use Rattle.passes.specs.Sound.{soundAt}
+use Rattle.passes.specs.declared.types.Place.{Place}
+use Rattle.passes.specs.declared.types.Stage.{Stage}
+use mathlib.Core.Path.{subst}
 use Rattle.passes.proofs.step.scaled_next.Statement.{statement}
 use Rattle.passes.proofs.step.scaled_next.Tie as tie
-use Rattle.passes.proofs.step.scaled_next.Reads as reads
-use Rattle.passes.proofs.step.scaled_next.Lts as lts
-use Rattle.passes.proofs.load.moved.Reads as moved-reads
-use Rattle.passes.proofs.step.image.Reads as image-reads
-use Rattle.passes.proofs.step.load_step.Reads as load-step-reads
-use Rattle.passes.proofs.step.rect.Reads as rect-reads
-use Rattle.passes.proofs.step.tile0.Reads as tile0-reads
-use Rattle.passes.proofs.step.tile7.Reads as tile7-reads
-use Rattle.passes.proofs.walk.drawn.Reads as drawn-reads
-use Rattle.passes.proofs.walk.next_pass.Reads as next-pass-reads
 
--- src/step.rt:197:43
 enum-told : tie.Need-enum-told
 enum-told c = search needs
 
--- src/step.rt:197:43
 tile7-requires : tie.Need-tile7-requires
 tile7-requires c κs = search needs
 
--- src/step.rt:198:44
 enum-told-2 : tie.Need-enum-told-2
 enum-told-2 c = search needs
 
--- src/step.rt:198:44
 tile0-requires : tie.Need-tile0-requires
 tile0-requires c κs = search needs
 
--- src/step.rt:200:17
 enum-told-3 : tie.Need-enum-told-3
 enum-told-3 c = search needs
 
--- src/step.rt:207:37
 next-pass-requires : tie.Need-next-pass-requires
-next-pass-requires c κs = ?
+next-pass-requires c κs = let h = rw (c .enum-told3 .given .1) at (c .before .before .pre) in (h .scaled, λ _. h .walk)
 
--- src/step.rt:209:21
 enum-known-stage : tie.Need-enum-known-stage
 enum-known-stage c = search needs
 
--- src/step.rt:212:17
 tile7-requires-2 : tie.Need-tile7-requires-2
 tile7-requires-2 c κs = search needs
 
--- src/step.rt:216:22
 enum-known-stage-2 : tie.Need-enum-known-stage-2
 enum-known-stage-2 c = search needs
 
--- src/step.rt:219:17
 image-requires : tie.Need-image-requires
-image-requires c κs = ?
+image-requires c κs = (rw (c .before .before .stage2 .given .1) at (c .before .before .before .before .pre)) .pass .scaled
 
--- src/step.rt:223:21
 enum-known-stage-3 : tie.Need-enum-known-stage-3
 enum-known-stage-3 c = search needs
 
--- src/step.rt:223:27
 load-step-requires : tie.Need-load-step-requires
-load-step-requires c κs = ?
+load-step-requires c κs = rw (c .before .stage3 .given .1) at (c .before .before .before .pre)
 
--- src/step.rt:224:42
 enum-told-4 : tie.Need-enum-told-4
 enum-told-4 c = search needs
 
--- src/step.rt:224:42
 tile7-requires-3 : tie.Need-tile7-requires-3
 tile7-requires-3 c κs = search needs
 
--- src/step.rt:224:62
 moved-requires : tie.Need-moved-requires
-moved-requires c κs = ?
+moved-requires c κs = rw (c .before .enum-told4 .given .1) at (c .before .before .before .pre)
 
--- src/step.rt:225:42
 enum-told-5 : tie.Need-enum-told-5
 enum-told-5 c = search needs
 
--- src/step.rt:225:42
 rect-requires : tie.Need-rect-requires
-rect-requires c κs = ?
+rect-requires c κs = (rw (c .enum-told5 .given .1) at (c .before .before .pre)) .pass
 
--- src/step.rt:225:71
 drawn-requires : tie.Need-drawn-requires
-drawn-requires c κs = ?
+drawn-requires c κs = rw (c .before .enum-told5 .given .1) at (c .before .before .before .pre)
 
--- src/step.rt:225:51
 next-pass-requires-2 : tie.Need-next-pass-requires-2
-next-pass-requires-2 c κs = ?
+next-pass-requires-2 c κs = let h = rw (c .before .before .enum-told5 .given .1) at (c .before .before .before .before .pre) in (h .pass .scaled, rw (c .drawn .ensures) (h .next))
 
--- src/step.rt:192:1
 returns : tie.Need-returns
-returns c = ?
+returns c =
+    let e = c .before .enum-told .given .1 in
+    rw e (give-first (c .before .before .before .args .p) _ (c .tile7 .ensures) (rw e at (c .before .before .before .pre)))
 
--- src/step.rt:192:1
 returns-2 : tie.Need-returns-2
-returns-2 c = ?
+returns-2 c =
+    let e = c .before .enum-told2 .given .1 in
+    rw e (give-second (c .before .before .before .args .p) _ (c .tile0 .ensures) (rw e at (c .before .before .before .pre)))
 
--- src/step.rt:192:1
 returns-3 : tie.Need-returns-3
-returns-3 c = ?
+returns-3 c = rw (c .before .enum-told3 .given .1) (give-third (c .before .before .before .args .p) _ (c .next-pass .ensures))
 
--- src/step.rt:192:1
 returns-4 : tie.Need-returns-4
-returns-4 c = ?
+returns-4 c =
+    let e = c .before .before .before .before .stage .given .1 in
+    let p = c .before .before .before .before .before .before .args .p in
+    rw e (give-tile p _ _ (rw (rk (p .part .destination) (c .before .struct-told .given .1 .1 .0 .1)) at (c .tile72 .ensures)) (rw e at (c .before .before .before .before .before .before .pre)))
 
--- src/step.rt:192:1
 returns-5 : tie.Need-returns-5
-returns-5 c = ?
+returns-5 c =
+    let e = c .before .before .before .stage2 .given .1 in
+    rw e (give-image (c .before .before .before .before .before .args .p) _ _ (c .image .ensures) (rw e at (c .before .before .before .before .before .pre)))
 
--- src/step.rt:192:1
 returns-6 : tie.Need-returns-6
-returns-6 c = ?
+returns-6 c = rw (c .before .before .stage3 .given .1) (c .load-step .ensures)
 
--- src/step.rt:192:1
 returns-7 : tie.Need-returns-7
-returns-7 c = ?
+returns-7 c = rw (c .before .before .enum-told4 .given .1) (give-last (c .before .before .before .before .args .p) _ _ (c .before .tile73 .ensures) (c .moved .ensures))
 
--- src/step.rt:192:1
 returns-8 : tie.Need-returns-8
-returns-8 c = ?
+returns-8 c =
+    let e = c .before .before .before .enum-told5 .given .1 in
+    rw e (give-rect (c .before .before .before .before .before .args .p) _ _ _ (c .before .before .rect .ensures) (c .before .drawn .ensures) (rw e at (c .before .before .before .before .before .pre)) (c .next-pass2 .ensures))
 
 pub scaled-next-spec : {M : Type 1} → statement M
 scaled-next-spec =
