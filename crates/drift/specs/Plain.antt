@@ -14,6 +14,8 @@ use Rattle.plan.specs.Out.{Out, more, _>>=_, yield, emit}
 use Rattle.plan.specs.declared.types.Entry.the-variants.{Image, Tile, Size, Load, Rect}
 use Rattle.plan.specs.Out.Out.{go, stop}
 use Rattle.object.specs.declared.types.Verdict.{Verdict}
+use Rattle.object.specs.declared.types.Verdict.the-variants as verdict
+use Rattle.object.specs.Check.{verdictNumber}
 use Rattle.tile.specs.declared.load.LoadRequest.{LoadRequest}
 use Rattle.tile.specs.declared.load.LoadRequest.the-variants as request
 use Rattle.tile.specs.Load.{requestOf}
@@ -106,17 +108,21 @@ near-prefix m d n ks (Load i uls ult lrs lrt words rows stride start len ∷ es)
 near-prefix m d n [] (Rect i ulx uly lrx lry uls ult dsdx dtdy row ∷ es) fs q = absurd q
 near-prefix m d n (k ∷ ks) (Rect i ulx uly lrx lry uls ult dsdx dtdy row ∷ es) fs q = (q .0, near-prefix m d (n + (lry - uly) / 4) ks es fs (q .1))
 
+-- a verdict that is no 0
+abbrev pub Refuses : Verdict → Type 0
+Refuses v = eqb (verdictNumber v) 0 ≡ false
+
 abbrev pub Still : {A : Type 0} → (A → Type 0) → Out A → Type 0
 Still P (go es a) = Plain es × P a
-Still P (stop es l v) = Plain es
+Still P (stop es l v) = Plain es × Refuses v
 
--- an outcome with no rectangle, whose value, if it goes on, is such that P
+-- an outcome with no rectangle, whose value, if it goes on, is such that P, and which else stops with a verdict above 0
 pub record Quiet {A : Type 0} (P : A → Type 0) (o : Out A) : Type 0 where
   pub still : Still P o
 
 pub quiet-more : {A : Type 0} {P : A → Type 0} (es : List Entry) (a : Out A) → Plain es → Quiet P a → Quiet P (more es a)
 quiet-more es (go fs a) p q = record { still = (plain-append es fs p (q .still .0), q .still .1) }
-quiet-more es (stop fs l v) p q = record { still = plain-append es fs p (q .still) }
+quiet-more es (stop fs l v) p q = record { still = (plain-append es fs p (q .still .0), q .still .1) }
 
 pub quiet-bind : {A B : Type 0} {P : A → Type 0} {Q : B → Type 0} (a : Out A) (k : A → Out B) → Quiet P a → ((x : A) → P x → Quiet Q (k x)) → Quiet Q (a >>= k)
 quiet-bind (go es x) k p f = quiet-more es (k x) (p .still .0) (f x (p .still .1))
@@ -125,8 +131,8 @@ quiet-bind (stop es l v) k p f = record { still = p .still }
 pub quiet-yield : {A : Type 0} {P : A → Type 0} (a : A) → P a → Quiet P (yield a)
 quiet-yield a p = record { still = (tt, p) }
 
-pub quiet-stop : {A : Type 0} {P : A → Type 0} (l : List Entry) (v : Verdict) → Quiet P (stop [] l v)
-quiet-stop l v = record { still = tt }
+pub quiet-stop : {A : Type 0} {P : A → Type 0} (l : List Entry) (v : Verdict) → Refuses v → Quiet P (stop [] l v)
+quiet-stop l v r = record { still = (tt, r) }
 
 pub entries-more : {A : Type 0} (es : List Entry) (a : Out A) → entriesOut (more es a) ≡ es ++ entriesOut a
 entries-more es (go fs a) = refl
@@ -135,7 +141,7 @@ entries-more es (stop fs l v) = refl
 -- after an outcome with no rectangle, what is near stays near
 pub near-bind : {A B : Type 0} {P : A → Type 0} (m : ℕ) (d : Drift) (n : ℕ) (ks : List ℤ) (a : Out A) (k : A → Out B) → Quiet P a → ((x : A) → P x → AllBy m d n ks (entriesOut (k x))) → AllBy m d n ks (entriesOut (a >>= k))
 near-bind m d n ks (go es x) k p f = rw (entries-more es (k x)) (plain-near m d n ks es (entriesOut (k x)) (p .still .0) (f x (p .still .1)))
-near-bind m d n ks (stop es l v) k p f = plain-alone m d n ks es (p .still)
+near-bind m d n ks (stop es l v) k p f = plain-alone m d n ks es (p .still .0)
 
 -- ---- the scaled plan's parts: no load has a rectangle
 
@@ -149,12 +155,12 @@ quiet-if false a b p q = q
 
 pub quiet-address : (p : ℕ) (o : ℤ) → Quiet Any (sourceAddress p o)
 unfolding sourceAddress
-quiet-address p o = quiet-if (ltZ (pos p +ℤ o) (pos 0)) _ _ (quiet-stop _ _) (quiet-if (ltb (up (pos p +ℤ o)) (2 ^ 64)) _ _ (quiet-yield _ tt) (quiet-stop _ _))
+quiet-address p o = quiet-if (ltZ (pos p +ℤ o) (pos 0)) _ _ (quiet-stop _ verdict.Address refl) (quiet-if (ltb (up (pos p +ℤ o)) (2 ^ 64)) _ _ (quiet-yield _ tt) (quiet-stop _ verdict.Address refl))
 
 quiet-given : (r : LoadRequest) (i uls ult lrs lrt : ℕ) → Quiet Any (loadOut r i uls ult lrs lrt)
 unfolding loadOut
 quiet-given (request.Load words rows stride start length) i uls ult lrs lrt = record { still = (tt, tt) }
-quiet-given request.Overflow i uls ult lrs lrt = quiet-stop _ _
+quiet-given request.Overflow i uls ult lrs lrt = quiet-stop _ verdict.Address refl
 
 pub quiet-load-tile : (siz width address i uls ult lrs lrt : ℕ) → Quiet Any (loadTile siz width address i uls ult lrs lrt)
 unfolding loadTile
@@ -166,8 +172,8 @@ quiet-part z pointer rows width = quiet-more (Image _ _ _ _ ∷ []) _ tt (quiet-
 
 pub quiet-load : (z : Scaled) (pointer : ℕ) (rows destination width : ℤ) (set-tile : Bool) → Quiet Any (load1cycTile z pointer rows destination width set-tile)
 unfolding load1cycTile
-quiet-load z pointer rows destination width true = quiet-if (leZ rows (pos 0) || (leZ width (pos 0) || ltZ destination (pos 0))) _ _ (quiet-stop _ _) (quiet-more (tile7 z destination ∷ []) _ tt (quiet-part z pointer rows width))
-quiet-load z pointer rows destination width false = quiet-if (leZ rows (pos 0) || (leZ width (pos 0) || ltZ destination (pos 0))) _ _ (quiet-stop _ _) (quiet-more [] _ tt (quiet-part z pointer rows width))
+quiet-load z pointer rows destination width true = quiet-if (leZ rows (pos 0) || (leZ width (pos 0) || ltZ destination (pos 0))) _ _ (quiet-stop _ verdict.Piece refl) (quiet-more (tile7 z destination ∷ []) _ tt (quiet-part z pointer rows width))
+quiet-load z pointer rows destination width false = quiet-if (leZ rows (pos 0) || (leZ width (pos 0) || ltZ destination (pos 0))) _ _ (quiet-stop _ verdict.Piece refl) (quiet-more [] _ tt (quiet-part z pointer rows width))
 
 pub quiet-back : (z : Scaled) (odd p : ℕ) → Quiet Any (back z odd p)
 quiet-back z odd p = quiet-if (eqb odd 0) _ _ (quiet-yield _ tt) (quiet-address p _)

@@ -164,11 +164,11 @@ scaled-source : (bg : ObjBg) (mode address : ℕ) (c : Clip) (i : Start) → sca
 unfolding scaledOf
 scaled-source bg mode address c i = refl
 
-scaled-scale : (bg : ObjBg) (mode address : ℕ) (c : Clip) (i : Start) → scaledOf bg mode address c i .«scale_h» ≡ bg .«scale_h» .0
+pub scaled-scale : (bg : ObjBg) (mode address : ℕ) (c : Clip) (i : Start) → scaledOf bg mode address c i .«scale_h» ≡ bg .«scale_h» .0
 unfolding scaledOf
 scaled-scale bg mode address c i = refl
 
-scaled-frame : (bg : ObjBg) (mode address : ℕ) (c : Clip) (i : Start) → scaledOf bg mode address c i .«frame_rows» ≡ scaledOf bg mode address c i .«image_rows» * 1048576 / scaledOf bg mode address c i .«scale_h»
+pub scaled-frame : (bg : ObjBg) (mode address : ℕ) (c : Clip) (i : Start) → scaledOf bg mode address c i .«frame_rows» ≡ scaledOf bg mode address c i .«image_rows» * 1048576 / scaledOf bg mode address c i .«scale_h»
 unfolding scaledOf
 scaled-frame bg mode address c i = refl
 
@@ -197,11 +197,11 @@ fit-of bg mode address c i z ez ei o m b s =
       first = rw ei (start-origin bg c (z .«source_rows») (omega arith));
     }
 
-or-false : (a b : Bool) → (a || b) ≡ false → a ≡ false
+pub or-false : (a b : Bool) → (a || b) ≡ false → a ≡ false
 or-false true b e = e
 or-false false b e = refl
 
-positive : (n : ℕ) → eqb n 0 ≡ false → 0 < n
+pub positive : (n : ℕ) → eqb n 0 ≡ false → 0 < n
 positive zero e = absurd (eqb-false 0 0 e refl)
 positive (suc n) e = omega arith
 

@@ -171,7 +171,7 @@ not-above : (x : ℤ) → ltZ x (pos 0) ≡ true → ltZ (pos 0) x ≡ false
 not-above (pos n) e = absurd (omega (zarith, ltZ-true (pos n) (pos 0) e))
 not-above (negsuc n) e = refl
 
-lines-apart : (y n : ℕ) → ((y + n) * 4 - y * 4) / 4 ≡ n
+pub lines-apart : (y n : ℕ) → ((y + n) * 4 - y * 4) / 4 ≡ n
 lines-apart y n = omega arith
 
 module _ (d : Drift) (z : Scaled) (k0 l rho e : ℕ) (f : Fixed d z k0 l rho e) (n : ℕ) (w : Walk) (k earlier c v : ℕ) (a : At d z k0 l w k earlier c v)

@@ -88,7 +88,7 @@ short-prefix (Rect i ulx uly lrx lry uls ult dsdx dtdy row ∷ es) fs q = (q .0,
 
 short-bind : {A B : Type 0} {P : A → Type 0} (a : Out A) (k : A → Out B) → Quiet P a → ((x : A) → Short (entriesOut (k x))) → Short (entriesOut (a >>= k))
 short-bind (go es x) k p f = rw (entries-more es (k x)) (plain-short es (entriesOut (k x)) (p .still .0) (f x))
-short-bind (stop es l v) k p f = plain-alone es (p .still)
+short-bind (stop es l v) k p f = plain-alone es (p .still .0)
 
 short-t : (t : ℕ) → t < 32 → i16 (pos t) ≡ toZ w64 (word (i16 (pos t)))
 short-t t h = rw (small t h, mod-eq-of-lt {n = t} {m = 2 ^ 64} (omega arith)) (sym (toZ-pos w64 t (omega arith)))

@@ -2,15 +2,18 @@
 -- Assumes nothing.
 use mathlib.Core.Path.{_≡_, refl, sym, ap, _∙_}
 use mathlib.Core.List.{List, [], _∷_, _++_}
-use Prim.Native.Nat.{ℕ, suc, _+_, _-_, _*_, _/_, _^_, _≤_, _<_}
+use Prim.Native.Nat.{ℕ, suc, _+_, _-_, _*_, _/_, _%_, _^_, _≤_, _<_}
 use native.Mathlib.Omega.{arith}
-use native.Mathlib.Nat.{mul-le-mul}
+use mathlib.Core.Bool.{Bool, true, false, cond}
+use lib.Dec.{eqb, lit<}
+use Rattle.signed.specs.Floor.{modulo-lt}
+use Rattle.signed.specs.Cast.{u16}
 use lib.IntN.{ℤ, pos, negsuc, negℤ, _+ℤ_, _-ℤ_, _*ℤ_}
 use lib.Signed.{_≤ℤ_}
 use Rattle.signed.specs.Diff.{up, dn, zdiff, zparts, zarith}
 use Rattle.object.specs.declared.types.Verdict.the-variants as verdict
 use Rattle.plan.specs.declared.types.Entry.{Entry}
-use Rattle.plan.specs.declared.types.Entry.the-variants.{Size}
+use Rattle.plan.specs.declared.types.Entry.the-variants.{Tile, Size}
 use Rattle.plan.specs.declared.types.Scaled.{Scaled}
 use Rattle.plan.specs.declared.types.Source.{Source}
 use Rattle.plan.specs.declared.types.Walk.{Walk}
@@ -19,10 +22,14 @@ use Rattle.plan.specs.declared.types.First.{First}
 use Rattle.plan.specs.Out.{Out, more, _>>=_, _>>_, yield, refuse, emit, planOut}
 use Rattle.plan.specs.Out.Out.{go, stop}
 use Rattle.plan.specs.Laws.{more-nil}
-use Rattle.plan.specs.Load.{sourceAddress}
+use Rattle.plan.specs.Load.{loadOut, loadTile, sourceAddress}
 use Rattle.plan.specs.Next.{cons, ended}
-use Rattle.plan.specs.Sound.{SoundScaled, SoundFirst}
-use Rattle.plan.specs.Scaled.{tile7, loadPart, loadRows, rectOf, advance, drawOf, leftAfter, afterDraw, firstPass, passes, scaledPlan}
+use Rattle.plan.specs.Sound.{SoundScaled, SoundFirst, entryRows, entryLine, EntryIn}
+use Rattle.tile.specs.declared.load.LoadRequest.{LoadRequest}
+use Rattle.tile.specs.declared.load.LoadRequest.the-variants as request
+use Rattle.tile.specs.Load.{requestOf, rowsIn}
+use Rattle.tile.specs.Laws.{rows-in}
+use Rattle.plan.specs.Scaled.{sizeOf, fieldOf, lrsOf, lrtOf, tile7, loadPart, loadRows, rectOf, advance, drawOf, leftAfter, afterDraw, firstPass, passes, scaledPlan}
 use Rattle.passes.specs.declared.types.Piece.{Piece}
 use Rattle.passes.specs.declared.types.Piece.the-variants as piece
 use Rattle.passes.specs.declared.types.Stage.the-variants as stage
@@ -35,6 +42,55 @@ use Rattle.passes.specs.Loads.{emit-first, emit-plan, then-assoc, after-
 use Rattle.passes.specs.Sound.{SoundWalk, SoundPass, SoundPiece, SoundRect, SoundStart, ClipIn, Reaches, Gave, leftAt, leftReached, leftPass, afterPiece}
 use Rattle.passes.specs.Enter.{ended-as}
 
+-- the rows and the line of each entry are few
+plain-in : EntryIn (Size 0 0 0 0 0)
+plain-in = record { rows = omega arith; line = omega arith }
+
+tile-in : (i fmt siz line tmem palette cms cmt masks maskt : ℕ) → EntryIn (Tile i fmt siz (line % 2 ^ 16) tmem palette cms cmt masks maskt)
+tile-in i fmt siz line tmem palette cms cmt masks maskt = record { rows = omega arith; line = omega arith }
+
+image-in : (z : Scaled) (pointer : ℕ) → EntryIn (imageOf z pointer)
+image-in z pointer = record { rows = omega arith; line = omega arith }
+
+rect-in : (z : Scaled) (w : Walk) (lines : ℕ) → EntryIn (rectOf z w lines)
+rect-in z w lines = record { rows = omega arith; line = omega arith }
+
+-- the first entry's rows and line
+abbrev firstRows : Out (Unit {0}) → ℕ
+firstRows (go [] u) = 0
+firstRows (go (e ∷ es) u) = entryRows e
+firstRows (stop es l v) = 0
+
+abbrev firstLine : Out (Unit {0}) → ℕ
+firstLine (go [] u) = 0
+firstLine (go (e ∷ es) u) = entryLine e
+firstLine (stop es l v) = 0
+
+asked-rows : (q : LoadRequest) (i uls ult lrs lrt : ℕ) → firstRows (loadOut q i uls ult lrs lrt) ≡ rowsIn q
+unfolding loadOut
+asked-rows (request.Load words rows stride start length) i uls ult lrs lrt = refl
+asked-rows request.Overflow i uls ult lrs lrt = refl
+
+asked-line : (q : LoadRequest) (i uls ult lrs lrt : ℕ) → firstLine (loadOut q i uls ult lrs lrt) ≡ 0
+unfolding loadOut
+asked-line (request.Load words rows stride start length) i uls ult lrs lrt = refl
+asked-line request.Overflow i uls ult lrs lrt = refl
+
+lower-lt : (z : Scaled) (rows : ℤ) → lrtOf z rows < 65536
+lower-lt z rows = by (eqb (z .siz) 3)
+  where
+    by : (t : Bool) → cond t 0 (u16 (rows *ℤ pos 4 -ℤ pos 1)) < 65536
+    by true = lit< tt
+    by false = modulo-lt (rows *ℤ pos 4 -ℤ pos 1) {m = 65536} (lit< tt)
+
+load-in : (z : Scaled) (pointer : ℕ) (rows width : ℤ) (e : Entry) → emit e ≡ loadRows z pointer rows width → EntryIn e
+unfolding loadTile
+load-in z pointer rows width e i =
+    let q = requestOf (sizeOf z) (fieldOf z) pointer 0 0 (lrsOf width) (lrtOf z rows) in
+    let a = ap firstRows i ∙ asked-rows q 7 0 0 (lrsOf width) (lrtOf z rows) in
+    let b = ap firstLine i ∙ asked-line q 7 0 0 (lrsOf width) (lrtOf z rows) in
+    record { rows = rw a (rows-in (sizeOf z) (fieldOf z) pointer 0 0 (lrsOf width) (lrtOf z rows) (lower-lt z rows)); line = rw b (omega arith) }
+
 -- an entry in front of a pass
 pass-first : (p : Place) (e : Entry) (o : Out Source) → passFrom p (emit e >> o) ≡ cons e (passFrom p o)
 pass-first p e o = emit-first e o (λ source. drawn (p .scaled) (p .walk) (p .lines) source)
@@ -42,30 +98,30 @@ pass-first p e o = emit-first e o (λ source. drawn (p .scaled) (p .walk) (p .li
 module _ (p : Place) where
   pub give-first : (e : Entry) → e ≡ tile7 (p .scaled) (pos 0) → SoundStart p → Gave (comingScaled stage.First p) (leftAt stage.First p) (next.Entry e (reached.At stage.Second p))
   unfolding comingScaled
-  give-first e i h = (rw i (emit-plan (tile7 (p .scaled) (pos 0)) (emit (tile0 (p .scaled)) >> (emit (Size 0 0 0 0 0) >> passesOf (p .scaled) (p .walk)))), (h, omega arith))
+  give-first e i h = (rw i (emit-plan (tile7 (p .scaled) (pos 0)) (emit (tile0 (p .scaled)) >> (emit (Size 0 0 0 0 0) >> passesOf (p .scaled) (p .walk)))), (h, (omega arith, rw i (tile-in _ _ _ _ _ _ _ _ _ _))))
 
   pub give-second : (e : Entry) → e ≡ tile0 (p .scaled) → SoundStart p → Gave (comingScaled stage.Second p) (leftAt stage.Second p) (next.Entry e (reached.At stage.Third p))
   unfolding comingScaled
-  give-second e i h = (rw i (emit-plan (tile0 (p .scaled)) (emit (Size 0 0 0 0 0) >> passesOf (p .scaled) (p .walk))), (h, omega arith))
+  give-second e i h = (rw i (emit-plan (tile0 (p .scaled)) (emit (Size 0 0 0 0 0) >> passesOf (p .scaled) (p .walk))), (h, (omega arith, rw i (tile-in _ _ _ _ _ _ _ _ _ _))))
 
   pub give-third : (r : Reached) → Reaches (planOut (passesOf (p .scaled) (p .walk))) (14 * up (p .walk .«frame_remain»)) r → Gave (comingScaled stage.Third p) (leftAt stage.Third p) (next.Entry (Size 0 0 0 0 0) r)
   unfolding comingScaled
-  give-third r g = let l = g .left in (emit-plan (Size 0 0 0 0 0) (passesOf (p .scaled) (p .walk)) ∙ ap (cons (Size 0 0 0 0 0)) (sym (g .is)), (g .sound, omega arith))
+  give-third r g = let l = g .left in (emit-plan (Size 0 0 0 0 0) (passesOf (p .scaled) (p .walk)) ∙ ap (cons (Size 0 0 0 0 0)) (sym (g .is)), (g .sound, (omega arith, plain-in)))
 
   module _ (k : Piece) where
     pub give-tile : (e : Entry) → e ≡ tile7 (p .scaled) (p .part .destination) → SoundPiece p → Gave (comingScaled (stage.Tile k) p) (leftAt (stage.Tile k) p) (next.Entry e (reached.At (stage.Image k) p))
     unfolding comingScaled
-    give-tile e i h = (rw i (pass-first p (tile7 (p .scaled) (p .part .destination)) (partOut p >> afterPart k p)), (h, omega arith))
+    give-tile e i h = (rw i (pass-first p (tile7 (p .scaled) (p .part .destination)) (partOut p >> afterPart k p)), (h, (omega arith, rw i (tile-in _ _ _ _ _ _ _ _ _ _))))
 
     pub give-image : (e : Entry) → e ≡ imageOf (p .scaled) (p .part .pointer) → SoundPiece p → Gave (comingScaled (stage.Image k) p) (leftAt (stage.Image k) p) (next.Entry e (reached.At (stage.Load k) p))
     unfolding comingScaled loadPart
     give-image e i h =
-        (rw i (ap (passFrom p) (then-assoc (emit (imageOf (p .scaled) (p .part .pointer))) (loadRows (p .scaled) (p .part .pointer) (p .part .rows) (p .part .width)) (afterPart k p)) ∙ pass-first p (imageOf (p .scaled) (p .part .pointer)) (loadRows (p .scaled) (p .part .pointer) (p .part .rows) (p .part .width) >> afterPart k p)), (h, omega arith))
+        (rw i (ap (passFrom p) (then-assoc (emit (imageOf (p .scaled) (p .part .pointer))) (loadRows (p .scaled) (p .part .pointer) (p .part .rows) (p .part .width)) (afterPart k p)) ∙ pass-first p (imageOf (p .scaled) (p .part .pointer)) (loadRows (p .scaled) (p .part .pointer) (p .part .rows) (p .part .width) >> afterPart k p)), (h, (omega arith, rw i (image-in (p .scaled) (p .part .pointer)))))
 
     pub give-load : (e : Entry) (r : Reached) → emit e ≡ loadRows (p .scaled) (p .part .pointer) (p .part .rows) (p .part .width) → Reaches (passFrom p (afterPart k p)) (afterPiece k + leftPass p) r
         → Gave (comingScaled (stage.Load k) p) (leftAt (stage.Load k) p) (next.Entry e r)
     unfolding comingScaled
-    give-load e r i g = let l = g .left in (rw (← i) (pass-first p e (afterPart k p)) ∙ ap (cons e) (sym (g .is)), (g .sound, omega arith))
+    give-load e r i g = let l = g .left in (rw (← i) (pass-first p e (afterPart k p)) ∙ ap (cons e) (sym (g .is)), (g .sound, (omega arith, load-in (p .scaled) (p .part .pointer) (p .part .rows) (p .part .width) e i)))
 
     pub refuse-load : (e : Entry) → stop [] (e ∷ []) verdict.Address ≡ loadRows (p .scaled) (p .part .pointer) (p .part .rows) (p .part .width)
         → Gave (comingScaled (stage.Load k) p) (leftAt (stage.Load k) p) (next.Refused e)
@@ -74,7 +130,7 @@ module _ (p : Place) where
 
   pub give-last : (e : Entry) (r : Reached) → e ≡ tile7 (p .scaled) (pos 0) → Reaches (passFrom p (afterPart piece.Rest p)) (1 + leftPass p) r → Gave (comingScaled stage.Last p) (leftAt stage.Last p) (next.Entry e r)
   unfolding comingScaled pieceOut
-  give-last e r i g = let l = g .left in (ap (λ (x : Entry). passFrom p (emit x >> advance (p .scaled) (p .walk .source) (p .rows))) (sym i) ∙ pass-first p e (advance (p .scaled) (p .walk .source) (p .rows)) ∙ ap (cons e) (sym (g .is)), (g .sound, omega arith))
+  give-last e r i g = let l = g .left in (ap (λ (x : Entry). passFrom p (emit x >> advance (p .scaled) (p .walk .source) (p .rows))) (sym i) ∙ pass-first p e (advance (p .scaled) (p .walk .source) (p .rows)) ∙ ap (cons e) (sym (g .is)), (g .sound, (omega arith, rw i (tile-in _ _ _ _ _ _ _ _ _ _))))
 
   pub give-rect : (e : Entry) (n : Walk) (r : Reached) → e ≡ rectOf (p .scaled) (p .walk) (p .lines) → n ≡ afterDraw (p .scaled) (p .walk) (drawOf (p .walk)) (p .lines) (p .next) → SoundRect p
       → Reaches (planOut (passesOf (p .scaled) n)) (14 * up (n .«frame_remain»)) r → Gave (comingScaled stage.Rect p) (leftAt stage.Rect p) (next.Entry e r)
@@ -82,7 +138,7 @@ module _ (p : Place) where
   give-rect e n r i j h g =
       let l = g .left in
       let k = fewer (p .walk .«frame_remain») (drawOf (p .walk)) (h .pass .draws) (h .pass .left) in
-      (ap (λ (x : Entry). planOut (emit x >> passesOf (p .scaled) (afterDraw (p .scaled) (p .walk) (drawOf (p .walk)) (p .lines) (p .next)))) (sym i) ∙ ap (λ (w : Walk). planOut (emit e >> passesOf (p .scaled) w)) (sym j) ∙ emit-plan e (passesOf (p .scaled) n) ∙ ap (cons e) (sym (g .is)), (g .sound, less (leftReached r) (ap (λ (w : Walk). up (w .«frame_remain»)) j) k l))
+      (ap (λ (x : Entry). planOut (emit x >> passesOf (p .scaled) (afterDraw (p .scaled) (p .walk) (drawOf (p .walk)) (p .lines) (p .next)))) (sym i) ∙ ap (λ (w : Walk). planOut (emit e >> passesOf (p .scaled) w)) (sym j) ∙ emit-plan e (passesOf (p .scaled) n) ∙ ap (cons e) (sym (g .is)), (g .sound, (less (leftReached r) (ap (λ (w : Walk). up (w .«frame_remain»)) j) k l, rw i (rect-in (p .scaled) (p .walk) (p .lines)))))
     where
       fewer : (v : ℤ) (d : ℕ) → 1 ≤ d → 1 ≤ up v → up (v -ℤ pos d) ≤ up v - 1
       fewer (pos n) d a b = by n d a b

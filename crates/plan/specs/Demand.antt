@@ -124,17 +124,27 @@ pub record Apt (q : Request) : Type 0 where
 abbrev pub Demand3 : Type 0
 Demand3 = (q : Request) → Apt q → AllNear (driftOf q) 0 (stripsOf (driftOf q)) (planOf q .entries)
 
--- the same as a test: the distances of the rectangles' first lines (a distance is the same for all lines of a rectangle)
-unfoldable pub aheads : Drift → (earlier : ℕ) → List ℤ → List Entry → List ℤ
+-- where a rectangle begins: its first line, its strip, and the distance there (the same for all lines of a rectangle)
+pub record Begun : Type 0 where
+  pub line : ℕ
+  pub strip : ℤ
+  pub distance : ℤ
+
+-- the same of each rectangle, to compute with
+unfoldable pub aheads : Drift → (earlier : ℕ) → List ℤ → List Entry → List Begun
 aheads d n ks [] = []
 aheads d n ks (Image fmt siz width address ∷ es) = aheads d n ks es
 aheads d n ks (Tile i fmt siz line tmem palette cms cmt masks maskt ∷ es) = aheads d n ks es
 aheads d n ks (Size i uls ult lrs lrt ∷ es) = aheads d n ks es
 aheads d n ks (Load i uls ult lrs lrt words rows stride start len ∷ es) = aheads d n ks es
 aheads d n [] (Rect i ulx uly lrx lry uls ult dsdx dtdy row ∷ es) = []
-aheads d n (k ∷ ks) (Rect i ulx uly lrx lry uls ult dsdx dtdy row ∷ es) = ahead d k row ult n 0 ∷ aheads d (n + (lry - uly) / 4) ks es
+aheads d n (k ∷ ks) (Rect i ulx uly lrx lry uls ult dsdx dtdy row ∷ es) =
+    record { line = n; strip = k; distance = ahead d k row ult n 0 } ∷ aheads d (n + (lry - uly) / 4) ks es
 
-unfoldable pub allNear : ℕ → List ℤ → List ℤ → Bool
-allNear h ks [] = true
-allNear h [] (d ∷ ds) = false
-allNear h (k ∷ ks) (d ∷ ds) = leZ (negℤ (pos (h + 30))) d && (leZ (pos 1024 *ℤ d) (pos h *ℤ (pos 1024 +ℤ k)) && allNear h ks ds)
+-- demand 3's conditions and limits as tests
+unfoldable pub apt : Request → Bool
+apt q = let d = driftOf q in eqb (q .opcode) 9 && (eqb (d .image-h % 4) 0 && (eqb (modulo (d .origin) 32) 0 && leZ (d .origin) (pos (d .start))))
+
+unfoldable pub allNear : ℕ → List Begun → Bool
+allNear h [] = true
+allNear h (b ∷ bs) = leZ (negℤ (pos (h + 30))) (b .distance) && (leZ (pos 1024 *ℤ b .distance) (pos h *ℤ (pos 1024 +ℤ b .strip)) && allNear h bs)

@@ -12,3 +12,6 @@ pub mod Steps
 pub mod Next
 pub mod Sound
 pub mod Demand
+pub mod Check
+pub mod Unit
+pub mod Edges

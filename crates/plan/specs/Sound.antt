@@ -7,6 +7,8 @@ use lib.Signed.{_≤ℤ_}
 use Rattle.plan.specs.declared.types.Copy.{Copy}
 use Rattle.plan.specs.declared.types.Scaled.{Scaled}
 use Rattle.plan.specs.declared.types.First.{First}
+use Rattle.plan.specs.declared.types.Entry.{Entry}
+use Rattle.plan.specs.declared.types.Entry.the-variants.{Image, Tile, Size, Load, Rect}
 
 -- a copy plan of a frame that is not empty
 pub record SoundCopy (c : Copy) : Type 0 where
@@ -60,3 +62,23 @@ pub record SoundFirst (z : Scaled) (f : First) : Type 0 where
   pub slice-rows′ : f .«slice_rows» ≤ℤ pos 512
   pub t : f .t ≤ 31
   pub image-row : f .«image_row» < z .«source_rows»
+
+-- the rows that an entry loads, and the line that it sets
+abbrev pub entryRows : Entry → ℕ
+entryRows (Image fmt siz width address) = 0
+entryRows (Tile i fmt siz line tmem palette cms cmt masks maskt) = 0
+entryRows (Size i uls ult lrs lrt) = 0
+entryRows (Load i uls ult lrs lrt words rows stride start len) = rows
+entryRows (Rect i ulx uly lrx lry uls ult dsdx dtdy row) = 0
+
+abbrev pub entryLine : Entry → ℕ
+entryLine (Image fmt siz width address) = 0
+entryLine (Tile i fmt siz line tmem palette cms cmt masks maskt) = line
+entryLine (Size i uls ult lrs lrt) = 0
+entryLine (Load i uls ult lrs lrt words rows stride start len) = 0
+entryLine (Rect i ulx uly lrx lry uls ult dsdx dtdy row) = 0
+
+-- so few that their product fits a word
+pub record EntryIn (e : Entry) : Type 0 where
+  pub rows : entryRows e ≤ 16384
+  pub line : entryLine e ≤ 65535

@@ -1,0 +1,99 @@
+-- What a planner has still to come: the rest of its plan, and the end with the counts so far. A step's promise is that it answers the first of that and leaves the rest.
+-- Assumes nothing.
+use mathlib.Core.Path.{_≡_}
+use mathlib.Core.List.{List, [], _∷_}
+use Prim.Native.Nat.{ℕ, _+_, _^_, _≤_}
+use Rattle.object.specs.declared.types.ObjBg.{ObjBg}
+use Rattle.object.specs.declared.types.Scissor.{Scissor}
+use Rattle.object.specs.declared.types.Verdict.{Verdict}
+use Rattle.tile.specs.declared.bank.Bank.{Bank}
+use Rattle.plan.specs.declared.types.Entry.{Entry}
+use Rattle.plan.specs.declared.types.Answer.the-variants as answer
+use Rattle.plan.specs.Request.{Request}
+use Rattle.plan.specs.Out.{Plan, planOut}
+use Rattle.plan.specs.Next.{ended}
+use Rattle.plan.specs.Whole.{copyOut, scaledOut, planOf}
+use Rattle.plan.specs.Run.{bankStep}
+use Rattle.plan.specs.Steps.{Coming, comingOf, nextOf, answerOf, bankNext}
+use Rattle.copy.specs.Coming.{comingCopy}
+use Rattle.copy.specs.Walk.{SoundPlace}
+use Rattle.copy.specs.Kept.{leftCopy}
+use Rattle.passes.specs.declared.types.Reached.{Reached}
+use Rattle.passes.specs.declared.types.Reached.the-variants as reached
+use Rattle.passes.specs.Coming.{comingScaled}
+use Rattle.passes.specs.Sound.{soundAt, leftAt}
+use Rattle.words.specs.declared.count.Counts.{Counts}
+use Rattle.words.specs.Counts.{Countable, zeroCounts, countedOf, countedAll, endWith}
+use Rattle.planner.specs.declared.types.Course.{Course}
+use Rattle.planner.specs.declared.types.Course.the-variants as course
+use Rattle.planner.specs.declared.types.Planner.{Planner}
+use Rattle.planner.specs.declared.types.Stepped.{Stepped}
+
+-- the rest of the plan
+abbrev pub comingCourse : Course → Plan
+comingCourse (course.Copy s p) = comingCopy s p
+comingCourse (course.Scaled s p) = comingScaled s p
+comingCourse (course.Over v) = ended [] v
+
+-- the rest of the plan, and the end that it leads to
+abbrev pub comingFrom : Plan → Counts → Coming
+comingFrom plan n = record { entries = plan .entries; left = plan .left; end = endWith (countedAll n (plan .entries)) (plan .verdict) }
+
+unfoldable pub coming : Planner → Coming
+coming p = comingFrom (comingCourse (p .course)) (p .counts)
+
+-- the ranges of a course, and how many entries it has at the most
+abbrev pub soundCourse : Course → Type 0
+soundCourse (course.Copy s p) = SoundPlace p
+soundCourse (course.Scaled s p) = soundAt s p
+soundCourse (course.Over v) = Unit {0}
+
+abbrev pub leftCourse : Course → ℕ
+leftCourse (course.Copy s p) = leftCopy s p
+leftCourse (course.Scaled s p) = leftAt s p
+leftCourse (course.Over v) = 0
+
+-- what `fresh` and `step` promise of every planner that they return
+pub record Sound (p : Planner) : Type 0 where
+  pub course : soundCourse (p .course)
+  pub counts : Countable (p .counts)
+  pub few : p .counts .entries + leftCourse (p .course) ≤ 2 ^ 40
+
+-- a step answers the first of what is to come, leaves the rest, and the bank is as after it
+pub record StepIs (p : Planner) (b : Bank) (r : Stepped) : Type 0 where
+  pub answer : r .answer ≡ answerOf (coming p .entries) (coming p .end)
+  pub rest : coming (r .planner) ≡ nextOf (coming p .entries) (coming p .left) (coming p .end)
+  pub bank : r .bank ≡ bankNext (coming p .entries) (coming p .left) b
+  pub sound : Sound (r .planner)
+
+-- an entry is given, or the end
+abbrev pub giveOf : Course → Counts → Bank → Entry → Stepped
+giveOf w n b e = record { planner = record { course = w; counts = countedOf n e }; bank = bankStep b e; answer = answer.Entry e }
+
+abbrev pub stopOf : Counts → Bank → Verdict → Stepped
+stopOf n b v = record { planner = record { course = course.Over v; counts = n }; bank = b; answer = answer.End (endWith n v) }
+
+abbrev pub courseOf : Reached → Course
+courseOf (reached.At s p) = course.Scaled s p
+courseOf (reached.Ended v) = course.Over v
+
+-- a course with just a plan to come
+pub record Starts (plan : Plan) (r : Course) : Type 0 where
+  pub is : comingCourse r ≡ plan
+  pub sound : soundCourse r
+  pub left : leftCourse r ≤ 6000000
+
+abbrev pub requestOf : List ℕ → ℕ → Scissor → (mode address : ℕ) → Request
+requestOf bytes opcode scissor mode address = record { bytes = bytes; opcode = opcode; scissor = scissor; mode = mode; address = address }
+
+abbrev pub StartsCopy : ObjBg → Scissor → (address : ℕ) → Course → Type 0
+StartsCopy bg scissor address r = (bytes : List ℕ) (opcode mode : ℕ) → Starts (planOut (copyOut bg (requestOf bytes opcode scissor mode address))) r
+
+abbrev pub StartsScaled : ObjBg → Scissor → (mode address : ℕ) → Course → Type 0
+StartsScaled bg scissor mode address r = (bytes : List ℕ) (opcode : ℕ) → Starts (planOut (scaledOut bg (requestOf bytes opcode scissor mode address))) r
+
+-- D "made fresh": the whole plan of the request is to come
+pub record Fresh (bytes : List ℕ) (opcode : ℕ) (scissor : Scissor) (mode address : ℕ) (p : Planner) : Type 0 where
+  pub coming : coming p ≡ comingOf (planOf (requestOf bytes opcode scissor mode address))
+  pub counts : p .counts ≡ zeroCounts
+  pub sound : Sound p

@@ -1,0 +1,146 @@
+-- From one step of a course to one step of the planner: the counts and the bank go with the entry.
+-- Assumes nothing.
+use mathlib.Core.Path.{_≡_, refl, sym, ap, _∙_}
+use mathlib.Core.Bool.{Bool, true, false}
+use mathlib.Core.List.{List, [], _∷_}
+use Prim.Native.Nat.{ℕ, suc, _+_, _^_, _≤_, _<_}
+use native.Mathlib.Omega.{arith}
+use lib.Dec.{ltb}
+use Rattle.object.specs.declared.types.Verdict.{Verdict}
+use Rattle.object.specs.declared.types.Verdict.the-variants as verdict
+use Rattle.tile.specs.declared.bank.Bank.{Bank}
+use Rattle.tile.specs.declared.load.LoadRequest.{LoadRequest}
+use Rattle.tile.specs.declared.load.LoadRequest.the-variants as request
+use Rattle.tile.specs.Load.{rowsIn}
+use Rattle.tile.specs.Laws.{rows-in}
+use Rattle.plan.specs.declared.types.Entry.{Entry}
+use Rattle.plan.specs.declared.types.Entry.the-variants as entry
+use Rattle.plan.specs.declared.types.Answer.the-variants as answer
+use Rattle.plan.specs.Out.{Plan}
+use Rattle.plan.specs.Next.{Next, cons, ended, Follows}
+use Rattle.plan.specs.Next.Next.{give, over}
+use Rattle.plan.specs.Sound.{EntryIn}
+use Rattle.plan.specs.Run.{bankStep, bankAfter}
+use Rattle.plan.specs.Steps.{Coming, nextOf, answerOf, bankNext}
+use Rattle.copy.specs.declared.types.Stage.{Stage}
+use Rattle.copy.specs.declared.types.Stage.the-variants as stage
+use Rattle.copy.specs.declared.types.Place.{Place}
+use Rattle.copy.specs.declared.types.Area.{Area}
+use Rattle.copy.specs.declared.types.CopyNext.{CopyNext}
+use Rattle.copy.specs.declared.types.CopyNext.the-variants as copied
+use Rattle.copy.specs.Walk.{CopyWalk, SoundPlace, asNext, areaOf, requestIn, tooBig, tile7Next, loadNext, rectNext, copyNextOf}
+use Rattle.copy.specs.Coming.{comingCopy, comingWalk, copy-follows}
+use Rattle.copy.specs.Kept.{leftCopy, Kept, copy-kept}
+use Rattle.words.specs.declared.count.Counts.{Counts}
+use Rattle.words.specs.Counts.{Countable, countedOf, countedAll, endWith, counted-countable, counted-entries}
+use Rattle.planner.specs.declared.types.Course.{Course}
+use Rattle.planner.specs.declared.types.Course.the-variants as course
+use Rattle.planner.specs.declared.types.Planner.{Planner}
+use Rattle.planner.specs.declared.types.Stepped.{Stepped}
+use Rattle.planner.specs.Coming.{comingCourse, comingFrom, coming, soundCourse, leftCourse, Sound, StepIs, giveOf, stopOf}
+
+abbrev pub plannerAt : Course → Counts → Planner
+plannerAt w n = record { course = w; counts = n }
+
+-- what is to come of a planner whose plan starts with e
+given-answer : (p : Plan) (n : Counts) (e : Entry) (q : Plan) → p ≡ cons e q → answerOf (comingFrom p n .entries) (comingFrom p n .end) ≡ answer.Entry e
+given-answer p n e q i = rw i
+
+-- an entry is given
+module _ (w w′ : Course) (n : Counts) (b : Bank) (e : Entry) (i : comingCourse w ≡ cons e (comingCourse w′)) where
+  given-rest : comingFrom (comingCourse w′) (countedOf n e) ≡ nextOf (comingFrom (comingCourse w) n .entries) (comingFrom (comingCourse w) n .left) (comingFrom (comingCourse w) n .end)
+  unfolding countedAll
+  given-rest = rw i
+
+  given-bank : bankStep b e ≡ bankNext (comingFrom (comingCourse w) n .entries) (comingFrom (comingCourse w) n .left) b
+  given-bank = rw i
+
+  pub step-given : EntryIn e → soundCourse w′ → suc (leftCourse w′) ≤ leftCourse w → Sound (plannerAt w n) → StepIs (plannerAt w n) b (giveOf w′ n b e)
+  unfolding coming
+  step-given a s l h =
+      let f = h .few in
+      let k = counted-entries n e in
+      record {
+        answer = sym (given-answer (comingCourse w) n e (comingCourse w′) i);
+        rest = given-rest;
+        bank = given-bank;
+        sound = record { course = s; counts = counted-countable n e (h .counts) (omega arith) (a .line); few = omega arith };
+      }
+
+-- the end
+module _ (w : Course) (n : Counts) (b : Bank) (left : List Entry) (v : Verdict) (i : comingCourse w ≡ ended left v) where
+  stopped-answer : answer.End (endWith n v) ≡ answerOf (comingFrom (comingCourse w) n .entries) (comingFrom (comingCourse w) n .end)
+  unfolding countedAll
+  stopped-answer = rw i
+
+  stopped-rest : comingFrom (ended [] v) n ≡ nextOf (comingFrom (comingCourse w) n .entries) (comingFrom (comingCourse w) n .left) (comingFrom (comingCourse w) n .end)
+  unfolding countedAll
+  stopped-rest = rw i
+
+  stopped-bank : bankAfter b left ≡ bankNext (comingFrom (comingCourse w) n .entries) (comingFrom (comingCourse w) n .left) b
+  stopped-bank = rw i
+
+  pub step-stopped : (b′ : Bank) → b′ ≡ bankAfter b left → Sound (plannerAt w n) → StepIs (plannerAt w n) b (stopOf n b′ v)
+  unfolding coming
+  step-stopped b′ j h =
+      let f = h .few in
+      record {
+        answer = stopped-answer;
+        rest = stopped-rest;
+        bank = j ∙ stopped-bank;
+        sound = record { course = tt; counts = h .counts; few = omega arith };
+      }
+
+-- ---- copy
+
+-- the entries of a copy walk are small
+nextIn : CopyNext → Type 0
+nextIn (copied.Entry e s p) = EntryIn e
+nextIn copied.TooBig = Unit {0}
+nextIn (copied.Overflow e) = Unit {0}
+nextIn copied.Finished = Unit {0}
+
+tile7-in : (t : Bool) (p : Place) → nextIn (tile7Next t p)
+unfolding nextIn tile7Next
+tile7-in true p = tt
+tile7-in false p = record { rows = omega arith; line = omega arith }
+
+load-in : (q : LoadRequest) (a : Area) (p : Place) → rowsIn q ≤ 16384 → nextIn (loadNext q a p)
+unfolding nextIn loadNext
+load-in (request.Load words rows stride start length) a p h = record { rows = h; line = omega arith }
+load-in request.Overflow a p h = tt
+
+rect-in : (t u : Bool) (p : Place) → nextIn (rectNext t u p)
+unfolding nextIn rectNext
+rect-in true u p = record { rows = omega arith; line = omega arith }
+rect-in false true p = record { rows = omega arith; line = omega arith }
+rect-in false false p = record { rows = omega arith; line = omega arith }
+
+next-in : (s : Stage) (p : Place) → nextIn (copyNextOf s p)
+unfolding copyNextOf nextIn
+next-in stage.Image p = record { rows = omega arith; line = omega arith }
+next-in stage.Tile7 p = tile7-in (tooBig p) p
+next-in stage.Tile0 p = record { rows = omega arith; line = omega arith }
+next-in stage.Size p = record { rows = omega arith; line = omega arith }
+next-in stage.Load p = load-in (requestIn (p .copy) (areaOf p)) (areaOf p) p (rows-in _ _ _ _ _ _ _ (omega arith))
+next-in stage.Rect p = rect-in _ _ p
+next-in stage.Done p = tt
+
+module _ (s : Stage) (p : Place) (h : SoundPlace p) where
+  -- what the walk answers, by its constructor
+  pub copy-given : (e : Entry) (s′ : Stage) (p′ : Place) → copyNextOf s p ≡ copied.Entry e s′ p′
+      → (comingCopy s p ≡ cons e (comingCopy s′ p′)) × (EntryIn e × (SoundPlace p′ × (suc (leftCopy s′ p′) ≤ leftCopy s p)))
+  unfolding nextIn
+  copy-given e s′ p′ i =
+      let f = rw i at (copy-follows s p h) in
+      let k = rw i at (copy-kept s p h) in
+      (f, (rw i at (next-in s p), (k .sound, k .less)))
+
+  pub copy-too-big : copyNextOf s p ≡ copied.TooBig → comingCopy s p ≡ ended [] verdict.TooBig
+  copy-too-big i = rw i at (copy-follows s p h)
+
+  pub copy-overflow : (e : Entry) → copyNextOf s p ≡ copied.Overflow e → comingCopy s p ≡ ended (e ∷ []) verdict.Address
+  copy-overflow e i = rw i at (copy-follows s p h)
+
+  pub copy-finished : copyNextOf s p ≡ copied.Finished → comingCopy s p ≡ ended [] verdict.Finished
+  copy-finished i = rw i at (copy-follows s p h)

@@ -1,0 +1,60 @@
+// The planner of a request: the checks, the set-up of its mode, and where its plan starts.
+ghost use mathlib.Core.Path.{_≡_};
+ghost use Rattle.object.specs.Range.{PassedCopy, PassedScaled};
+ghost use Rattle.planner.specs.Coming.{Fresh, StartsCopy, StartsScaled};
+use crate::types::Course;
+use crate::types::Planner;
+use object::Checked;
+use object::ObjBg;
+use object::Scissor;
+use object::Verdict;
+use passes::Reached;
+use words::Counts;
+
+fn copy_course(bg: ObjBg, scissor: Scissor, address: u64) -> Course
+    requires { ⌜ PassedCopy bg scissor ⌝ }
+    ensures { λ r. ⌜ StartsCopy bg scissor address r ⌝ }
+{
+    let c = copy::copy_of(bg, scissor, address);
+    if copy::copy_empty(c) {
+        return Course::Over(Verdict::Finished);
+    }
+    Course::Copy(copy::Stage::Image, copy::copy_start(c))
+}
+
+fn scaled_course(bg: ObjBg, scissor: Scissor, mode: u32, address: u64) -> Course
+    requires { ⌜ PassedScaled bg scissor ⌝ }
+    ensures { λ r. ⌜ StartsScaled bg scissor mode address r ⌝ }
+{
+    let c = scaled::clip_of(bg, scissor);
+    if scaled::clip_empty(c) {
+        return Course::Over(Verdict::Finished);
+    }
+    let i = scaled::start_of(bg, c);
+    let z = scaled::scaled_of(bg, mode, address, c, i);
+    if scaled::slices_bad(z) {
+        return Course::Over(Verdict::Slices);
+    }
+    match passes::scaled_start(z, c, scaled::first_of(z, i)) {
+        Reached::At(stage, place) => Course::Scaled(stage, place),
+        Reached::Ended(v) => Course::Over(v),
+    }
+}
+
+// The planner of any request; one that is refused ends at its first step.
+pub fn fresh(object: &[u8], opcode: u8, scissor: Scissor, mode: u32, address: u64) -> Planner
+    ensures { λ r. ⌜ Fresh (now (object .entry)) opcode scissor mode address r ⌝ }
+{
+    let course = match object::checked(object, opcode, scissor) {
+        Checked::Copy(bg) => copy_course(bg, scissor, address),
+        Checked::Scaled(bg) => scaled_course(bg, scissor, mode, address),
+        Checked::Refused(v) => Course::Over(v),
+    };
+    let counts = Counts {
+        entries: 0,
+        rectangles: 0,
+        words: 0,
+        line: 0,
+    };
+    Planner { course, counts }
+}

@@ -1,0 +1,31 @@
+// The planner by value, and what a step and a run answer.
+use object::Verdict;
+use plan::Answer;
+use plan::End;
+use tile::Bank;
+use words::Counts;
+
+// Where a plan stands: in a copy plan, in a scaled plan, or at its end.
+pub enum Course {
+    Copy(copy::Stage, copy::Place),
+    Scaled(passes::Stage, passes::Place),
+    Over(Verdict),
+}
+
+// Made by `fresh` and `step` alone, so that every planner is sound.
+pub struct Planner {
+    pub(crate) course: Course,
+    pub(crate) counts: Counts,
+}
+
+pub struct Stepped {
+    pub planner: Planner,
+    pub bank: Bank,
+    pub answer: Answer,
+}
+
+// How a whole run ended.
+pub struct Ran {
+    pub bank: Bank,
+    pub end: End,
+}

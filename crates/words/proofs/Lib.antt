@@ -1,0 +1,2 @@
+-- Laws that a proof of a function cites.
+pub mod Stored

@@ -1,0 +1,11 @@
+// What an entry does to the bank and the counts, and its eleven words; bank and end as words for hosts.
+mod buffer;
+mod count;
+mod entry;
+
+pub use buffer::store;
+pub use count::Counts;
+pub use count::counted;
+pub use count::end_of;
+pub use entry::bank_after;
+pub use entry::entry_words;
