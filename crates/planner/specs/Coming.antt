@@ -59,11 +59,17 @@ pub record Sound (p : Planner) : Type 0 where
   pub counts : Countable (p .counts)
   pub few : p .counts .entries + leftCourse (p .course) ≤ 2 ^ 40
 
+-- the counts after the first of what is to come
+abbrev pub countsNext : List Entry → Counts → Counts
+countsNext [] n = n
+countsNext (e ∷ es) n = countedOf n e
+
 -- a step answers the first of what is to come, leaves the rest, and the bank is as after it
 pub record StepIs (p : Planner) (b : Bank) (r : Stepped) : Type 0 where
   pub answer : r .answer ≡ answerOf (coming p .entries) (coming p .end)
   pub rest : coming (r .planner) ≡ nextOf (coming p .entries) (coming p .left) (coming p .end)
   pub bank : r .bank ≡ bankNext (coming p .entries) (coming p .left) b
+  pub counts : r .planner .counts ≡ countsNext (coming p .entries) (p .counts)
   pub sound : Sound (r .planner)
 
 -- an entry is given, or the end

@@ -5,6 +5,7 @@ use mathlib.Core.Bool.{Bool, true, false, cond}
 use mathlib.Core.List.{List, [], _∷_, _++_, append-assoc, append-nil}
 use Prim.Native.Nat.{ℕ, zero, suc, _+_, _-_, _*_, _/_, _≤_, _<_}
 use native.Mathlib.Omega.{arith}
+use mathlib.Core.Logic.{_⊎_, ⊎-elim}
 use lib.Dec.{ltb}
 use lib.ListN.{length, take, drop, length-append}
 use lib.Seq.{paste, length-paste, take-at, drop-at, take-all, drop-drop}
@@ -26,7 +27,7 @@ use Rattle.words.specs.Counts.{zeroCounts, countedOf, countedAll, endWith, end-
 use Rattle.planner.specs.declared.types.Planner.{Planner}
 use Rattle.planner.specs.declared.types.Stepped.{Stepped}
 use Rattle.planner.specs.declared.types.Ran.{Ran}
-use Rattle.planner.specs.Coming.{coming, Sound, StepIs, Fresh, requestOf}
+use Rattle.planner.specs.Coming.{coming, countsNext, Sound, StepIs, requestOf}
 
 -- D "A whole run writes entries of eleven 64-bit words": the end, the bank and the whole buffer
 pub record RanIs (bytes : List ℕ) (opcode : ℕ) (scissor : Scissor) (mode address : ℕ) (buf : List ℕ) (b : Bank) (out : List ℕ) (r : Ran) : Type 0 where
@@ -43,11 +44,11 @@ pub record FinishIs (p : Planner) (b : Bank) (r : Ran) : Type 0 where
   pub is : r ≡ finishBy (coming p .entries) (coming p .left) (coming p .end) (p .counts) b
 
 -- a run that is under way: `given` is written, the rest is to come
-pub record Going (plan : Plan) (buf : List ℕ) (b₀ : Bank) (out : List ℕ) (p : Planner) (b : Bank) (at : ℕ) : Type 0 where
+pub record Going (k : Coming) (buf : List ℕ) (b₀ : Bank) (out : List ℕ) (p : Planner) (b : Bank) (at : ℕ) : Type 0 where
   pub given : List Entry
-  pub whole : plan .entries ≡ given ++ coming p .entries
-  pub left : plan .left ≡ coming p .left
-  pub end : endOf plan ≡ coming p .end
+  pub whole : k .entries ≡ given ++ coming p .entries
+  pub left : k .left ≡ coming p .left
+  pub end : k .end ≡ coming p .end
   pub counts : p .counts ≡ countedAll zeroCounts given
   pub bank : b ≡ bankAfter b₀ given
   pub place : at ≡ 11 * length given
@@ -86,6 +87,18 @@ unfolding countedAll
 counts-append [] fs n = refl
 counts-append (e ∷ es) fs n = counts-append es fs (countedOf n e)
 
+more-words : (es : List Entry) (e : Entry) → planWords (es ++ e ∷ []) ≡ planWords es ++ entryWords e
+unfolding planWords
+more-words es e = words-append es (e ∷ []) ∙ ap (λ (x : List ℕ). planWords es ++ x) (append-nil (entryWords e))
+
+one-more : (es : List Entry) (e : Entry) (k : Counts) → countedAll k (es ++ e ∷ []) ≡ countedOf (countedAll k es) e
+unfolding countedAll
+one-more es e k = counts-append es (e ∷ []) k
+
+bank-more : (es : List Entry) (e : Entry) (x : Bank) → bankAfter x (es ++ e ∷ []) ≡ bankStep (bankAfter x es) e
+unfolding bankAfter
+bank-more es e x = bank-append es (e ∷ []) x
+
 -- the buffer with eleven more words
 paste-more : (xs ws buf : List ℕ) (a : ℕ) → length ws ≡ 11 → length xs ≡ a → paste (xs ++ drop a buf) a ws 11 ≡ (xs ++ ws) ++ drop (a + 11) buf
 paste-more xs ws buf a w l =
@@ -104,27 +117,14 @@ ended-there (y ∷ es) x e i = let z : _≡_ {A = ℕ} 0 1 = cc in absurd (omega
 
 -- ---- a run starts, goes on, and ends
 
-module _ (bytes : List ℕ) (opcode : ℕ) (scissor : Scissor) (mode address : ℕ) (p : Planner) (f : Fresh bytes opcode scissor mode address p) where
-  pub going-start : (buf : List ℕ) (b : Bank) → Going (planOf (requestOf bytes opcode scissor mode address)) buf b buf p b 0
-  unfolding countedAll bankAfter planWords
-  going-start buf b =
-      record {
-        given = [];
-        whole = sym (ap (λ (c : Coming). c .entries) (f .coming));
-        left = sym (ap (λ (c : Coming). c .left) (f .coming));
-        end = sym (ap (λ (c : Coming). c .end) (f .coming));
-        counts = f .counts;
-        bank = refl;
-        place = refl;
-        fits = omega arith;
-        same = refl;
-        buffer = refl;
-        sound = f .sound;
-      }
+pub going-start : (p : Planner) → Sound p → p .counts ≡ zeroCounts → (buf : List ℕ) (b : Bank) → Going (coming p) buf b buf p b 0
+unfolding countedAll bankAfter planWords
+going-start p h n buf b =
+    record { given = []; whole = refl; left = refl; end = refl; counts = n; bank = refl; place = refl; fits = omega arith; same = refl; buffer = refl; sound = h }
 
-module _ (plan : Plan) (buf : List ℕ) (b₀ : Bank) (out : List ℕ) (p : Planner) (b : Bank) (at : ℕ) (g : Going plan buf b₀ out p b at) where
+module _ (k : Coming) (buf : List ℕ) (b₀ : Bank) (out : List ℕ) (p : Planner) (b : Bank) (at : ℕ) (g : Going k buf b₀ out p b at) where
   -- one more entry
-  module _ (s : Stepped) (i : StepIs p b s) (e : Entry) (a : s .answer ≡ answer.Entry e) (n : s .planner .counts ≡ countedOf (p .counts) e) (room : at + 11 ≤ length out) where
+  module _ (s : Stepped) (i : StepIs p b s) (e : Entry) (a : s .answer ≡ answer.Entry e) (room : at + 11 ≤ length out) where
     es-is : coming p .entries ≡ e ∷ drop 1 (coming p .entries)
     es-is = came (coming p .entries) (coming p .end) e (sym (i .answer) ∙ a)
 
@@ -134,7 +134,7 @@ module _ (plan : Plan) (buf : List ℕ) (b₀ : Bank) (out : List ℕ) (p : Plan
     bank-is : s .bank ≡ bankStep b e
     bank-is = i .bank ∙ ap (λ (es : List Entry). bankNext es (coming p .left) b) es-is
 
-    pub going-more : (ws out′ : List ℕ) → ws ≡ entryWords e → out′ ≡ paste out at ws 11 → Going plan buf b₀ out′ (s .planner) (s .bank) (at + 11)
+    pub going-more : (ws out′ : List ℕ) → ws ≡ entryWords e → out′ ≡ paste out at ws 11 → Going k buf b₀ out′ (s .planner) (s .bank) (at + 11)
     going-more ws out′ w o =
         let gs = g .given in
         let l = g .place in
@@ -142,17 +142,17 @@ module _ (plan : Plan) (buf : List ℕ) (b₀ : Bank) (out : List ℕ) (p : Plan
         let len : length (gs ++ e ∷ []) ≡ length gs + 1 = length-append gs (e ∷ []) in
         let d : at + 11 ≡ 11 * length (gs ++ e ∷ []) = omega arith in
         let now-is : out′ ≡ planWords (gs ++ e ∷ []) ++ drop (11 * length (gs ++ e ∷ [])) buf =
-        o ∙ ap (λ (x : List ℕ). paste x at ws 11) (g .buffer ∙ ap (λ (k : ℕ). planWords gs ++ drop k buf) (sym l))
+        o ∙ ap (λ (x : List ℕ). paste x at ws 11) (g .buffer ∙ ap (λ (m : ℕ). planWords gs ++ drop m buf) (sym l))
         ∙ paste-more (planWords gs) ws buf at (ap length w ∙ eleven e) (words-length gs ∙ sym l)
         ∙ ap (λ (x : List ℕ). (planWords gs ++ x) ++ drop (at + 11) buf) w
         ∙ ap (λ (x : List ℕ). x ++ drop (at + 11) buf) (sym (more-words gs e))
-        ∙ ap (λ (k : ℕ). planWords (gs ++ e ∷ []) ++ drop k buf) d in
+        ∙ ap (λ (m : ℕ). planWords (gs ++ e ∷ []) ++ drop m buf) d in
         record {
           given = gs ++ e ∷ [];
           whole = g .whole ∙ ap (λ (es : List Entry). gs ++ es) es-is ∙ sym (append-assoc gs (e ∷ []) (drop 1 (coming p .entries))) ∙ ap (λ (c : Coming). (gs ++ e ∷ []) ++ c .entries) (sym rest-is);
           left = g .left ∙ ap (λ (c : Coming). c .left) (sym rest-is);
           end = g .end ∙ ap (λ (c : Coming). c .end) (sym rest-is);
-          counts = n ∙ ap (λ (k : Counts). countedOf k e) (g .counts) ∙ sym (one-more gs e zeroCounts);
+          counts = i .counts ∙ ap (λ (es : List Entry). countsNext es (p .counts)) es-is ∙ ap (λ (m : Counts). countedOf m e) (g .counts) ∙ sym (one-more gs e zeroCounts);
           bank = bank-is ∙ ap (λ (x : Bank). bankStep x e) (g .bank) ∙ sym (bank-more gs e b₀);
           place = d;
           fits = omega arith;
@@ -161,23 +161,11 @@ module _ (plan : Plan) (buf : List ℕ) (b₀ : Bank) (out : List ℕ) (p : Plan
           sound = i .sound;
         }
       where
-        more-words : (es : List Entry) (e : Entry) → planWords (es ++ e ∷ []) ≡ planWords es ++ entryWords e
-        unfolding planWords
-        more-words es e = words-append es (e ∷ []) ∙ ap (λ (x : List ℕ). planWords es ++ x) (append-nil (entryWords e))
-
-        one-more : (es : List Entry) (e : Entry) (k : Counts) → countedAll k (es ++ e ∷ []) ≡ countedOf (countedAll k es) e
-        unfolding countedAll
-        one-more es e k = counts-append es (e ∷ []) k
-
-        bank-more : (es : List Entry) (e : Entry) (x : Bank) → bankAfter x (es ++ e ∷ []) ≡ bankStep (bankAfter x es) e
-        unfolding bankAfter
-        bank-more es e x = bank-append es (e ∷ []) x
-
         length-is : (o′ ws : List ℕ) → o′ ≡ paste out at ws 11 → ws ≡ entryWords e → length out ≡ length buf → length o′ ≡ length buf
         length-is o′ ws i w m = rw i (length-paste out at ws 11 room (omega (arith, ap length w, eleven e)) ∙ m)
 
 -- the end: nothing more is to come, or there is no room
-module _ (plan : Plan) (buf : List ℕ) (b₀ : Bank) (out : List ℕ) (p : Planner) (b : Bank) (at : ℕ) (g : Going plan buf b₀ out p b at) (r : Ran) (f : FinishIs p b r) where
+module _ (plan : Plan) (buf : List ℕ) (b₀ : Bank) (out : List ℕ) (p : Planner) (b : Bank) (at : ℕ) (g : Going (comingOf plan) buf b₀ out p b at) (r : Ran) (f : FinishIs p b r) where
   -- all entries are written
   module _ (none : coming p .entries ≡ []) where
     all-given : plan .entries ≡ g .given
@@ -248,3 +236,35 @@ module _ (plan : Plan) (buf : List ℕ) (b₀ : Bank) (out : List ℕ) (p : Plan
     pub full-buffer : out ≡ runOf plan buf b₀ .buffer
     unfolding runOf
     full-buffer = g .buffer ∙ ap (λ (y : Plan). planWords (y .entries) ++ drop (11 * length (y .entries)) buf) (sym cut)
+
+-- a run with no room ends by its one step
+module _ (p : Planner) (b : Bank) (s : Stepped) (i : StepIs p b s) where
+  pub finish-end : (e : End) → s .answer ≡ answer.End e → FinishIs p b (record { bank = s .bank; end = e })
+  finish-end e a =
+      let none : coming p .entries ≡ [] = ended-there (coming p .entries) (coming p .end) e (sym (i .answer) ∙ a) in
+      record { is = by (coming p .entries) none (i .bank) (sym (i .answer) ∙ a) }
+    where
+      by : (es : List Entry) → es ≡ [] → s .bank ≡ bankNext es (coming p .left) b → answerOf es (coming p .end) ≡ answer.End e → record { bank = s .bank; end = e } ≡ finishBy es (coming p .left) (coming p .end) (p .counts) b
+      by [] n k l = let m : coming p .end ≡ e = cc in rw (k, m)
+      by (x ∷ es) n k l = let z : _≡_ {A = ℕ} 0 1 = cc in absurd (omega arith)
+
+  pub finish-full : (e : Entry) (r : Ran) → s .answer ≡ answer.Entry e → r .bank ≡ b → r .end ≡ endWith (p .counts) verdict.Full → FinishIs p b r
+  finish-full e r a k l = record { is = by (coming p .entries) (sym (i .answer) ∙ a) }
+    where
+      by : (es : List Entry) → answerOf es (coming p .end) ≡ answer.Entry e → r ≡ finishBy es (coming p .left) (coming p .end) (p .counts) b
+      by [] m = let z : _≡_ {A = ℕ} 0 1 = cc in absurd (omega arith)
+      by (x ∷ es) m = λ j. record { bank = k j; end = l j }
+
+-- the run is over where no entry comes next, or where there is no room
+pub ran-end : (plan : Plan) (buf : List ℕ) (b₀ : Bank) (out : List ℕ) (p : Planner) (b : Bank) (at : ℕ) → Going (comingOf plan) buf b₀ out p b at → (r : Ran) → FinishIs p b r
+    → (coming p .entries ≡ []) ⊎ (length out - at < 11) → (r .end ≡ runOf plan buf b₀ .end) × ((r .bank ≡ runOf plan buf b₀ .bank) × (out ≡ runOf plan buf b₀ .buffer))
+ran-end plan buf b₀ out p b at g r f l = by (coming p .entries) refl
+  where
+    by : (es : List Entry) → coming p .entries ≡ es → (r .end ≡ runOf plan buf b₀ .end) × ((r .bank ≡ runOf plan buf b₀ .bank) × (out ≡ runOf plan buf b₀ .buffer))
+    by [] e = (end-end plan buf b₀ out p b at g r f e, (end-bank plan buf b₀ out p b at g r f e, end-buffer plan buf b₀ out p b at g r f e))
+    by (x ∷ es) e =
+        let short : length out - at < 11 = ⊎-elim (λ n. none x es (sym e ∙ n)) (λ h. h) l in
+        (full-end plan buf b₀ out p b at g r f x es e short, (full-bank plan buf b₀ out p b at g r f x es e short, full-buffer plan buf b₀ out p b at g r f x es e short))
+      where
+        none : (x : Entry) (es : List Entry) → x ∷ es ≡ [] → length out - at < 11
+        none x es i = let z : _≡_ {A = ℕ} 0 1 = cc in absurd (omega arith)

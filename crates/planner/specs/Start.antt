@@ -72,11 +72,11 @@ module _ (bg : ObjBg) (s : Scissor) (address : ℕ) where
   pub copy-begins : SoundCopy (copyOf bg s address) → copyEmpty (copyOf bg s address) ≡ false → StartsCopy bg s address (course.Copy stage.Image (rowAt (copyOf bg s address) 0))
   copy-begins h t =
       λ bytes opcode mode.
-        record {
-          is = copy-start (copyOf bg s address) h ∙ sym (ap planOut (out-copy bg (requestOf bytes opcode s mode address) t));
-          sound = start-sound (copyOf bg s address) h;
-          left = start-left (copyOf bg s address);
-        }
+      record {
+        is = copy-start (copyOf bg s address) h ∙ sym (ap planOut (out-copy bg (requestOf bytes opcode s mode address) t));
+        sound = start-sound (copyOf bg s address) h;
+        left = start-left (copyOf bg s address);
+      }
 
 module _ (bg : ObjBg) (s : Scissor) (mode address : ℕ) where
   pub scaled-none : scaledEmpty (clipOf bg s) ≡ true → StartsScaled bg s mode address (course.Over verdict.Finished)

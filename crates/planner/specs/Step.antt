@@ -31,13 +31,20 @@ use Rattle.copy.specs.declared.types.CopyNext.the-variants as copied
 use Rattle.copy.specs.Walk.{CopyWalk, SoundPlace, asNext, areaOf, requestIn, tooBig, tile7Next, loadNext, rectNext, copyNextOf}
 use Rattle.copy.specs.Coming.{comingCopy, comingWalk, copy-follows}
 use Rattle.copy.specs.Kept.{leftCopy, Kept, copy-kept}
+use Rattle.passes.specs.declared.types.Stage as scaled
+use Rattle.passes.specs.declared.types.Place as scaled-place
+use Rattle.passes.specs.declared.types.Reached.{Reached}
+use Rattle.passes.specs.declared.types.Reached.the-variants as reached
+use Rattle.passes.specs.declared.types.ScaledNext.the-variants as gave
+use Rattle.passes.specs.Coming.{comingScaled, comingReached}
+use Rattle.passes.specs.Sound.{soundReached, leftAt, leftReached, Gave}
 use Rattle.words.specs.declared.count.Counts.{Counts}
 use Rattle.words.specs.Counts.{Countable, countedOf, countedAll, endWith, counted-countable, counted-entries}
 use Rattle.planner.specs.declared.types.Course.{Course}
 use Rattle.planner.specs.declared.types.Course.the-variants as course
 use Rattle.planner.specs.declared.types.Planner.{Planner}
 use Rattle.planner.specs.declared.types.Stepped.{Stepped}
-use Rattle.planner.specs.Coming.{comingCourse, comingFrom, coming, soundCourse, leftCourse, Sound, StepIs, giveOf, stopOf}
+use Rattle.planner.specs.Coming.{comingCourse, comingFrom, coming, soundCourse, leftCourse, Sound, countsNext, StepIs, giveOf, stopOf, courseOf}
 
 abbrev pub plannerAt : Course → Counts → Planner
 plannerAt w n = record { course = w; counts = n }
@@ -55,6 +62,9 @@ module _ (w w′ : Course) (n : Counts) (b : Bank) (e : Entry) (i : comingCourse
   given-bank : bankStep b e ≡ bankNext (comingFrom (comingCourse w) n .entries) (comingFrom (comingCourse w) n .left) b
   given-bank = rw i
 
+  given-counts : countedOf n e ≡ countsNext (comingFrom (comingCourse w) n .entries) n
+  given-counts = rw i
+
   pub step-given : EntryIn e → soundCourse w′ → suc (leftCourse w′) ≤ leftCourse w → Sound (plannerAt w n) → StepIs (plannerAt w n) b (giveOf w′ n b e)
   unfolding coming
   step-given a s l h =
@@ -64,6 +74,7 @@ module _ (w w′ : Course) (n : Counts) (b : Bank) (e : Entry) (i : comingCourse
         answer = sym (given-answer (comingCourse w) n e (comingCourse w′) i);
         rest = given-rest;
         bank = given-bank;
+        counts = given-counts;
         sound = record { course = s; counts = counted-countable n e (h .counts) (omega arith) (a .line); few = omega arith };
       }
 
@@ -80,6 +91,9 @@ module _ (w : Course) (n : Counts) (b : Bank) (left : List Entry) (v : Verdict) 
   stopped-bank : bankAfter b left ≡ bankNext (comingFrom (comingCourse w) n .entries) (comingFrom (comingCourse w) n .left) b
   stopped-bank = rw i
 
+  stopped-counts : n ≡ countsNext (comingFrom (comingCourse w) n .entries) n
+  stopped-counts = rw i
+
   pub step-stopped : (b′ : Bank) → b′ ≡ bankAfter b left → Sound (plannerAt w n) → StepIs (plannerAt w n) b (stopOf n b′ v)
   unfolding coming
   step-stopped b′ j h =
@@ -88,6 +102,7 @@ module _ (w : Course) (n : Counts) (b : Bank) (left : List Entry) (v : Verdict) 
         answer = stopped-answer;
         rest = stopped-rest;
         bank = j ∙ stopped-bank;
+        counts = stopped-counts;
         sound = record { course = tt; counts = h .counts; few = omega arith };
       }
 
@@ -144,3 +159,23 @@ module _ (s : Stage) (p : Place) (h : SoundPlace p) where
 
   pub copy-finished : copyNextOf s p ≡ copied.Finished → comingCopy s p ≡ ended [] verdict.Finished
   copy-finished i = rw i at (copy-follows s p h)
+
+-- ---- scaled
+
+-- what the walk reaches, as a course
+reached-is : (r : Reached) → comingCourse (courseOf r) ≡ comingReached r
+reached-is (reached.At s p) = refl
+reached-is (reached.Ended v) = refl
+
+reached-sound : (r : Reached) → soundReached r → soundCourse (courseOf r)
+reached-sound (reached.At s p) h = h
+reached-sound (reached.Ended v) h = tt
+
+reached-left : (r : Reached) (n : ℕ) → suc (leftReached r) ≤ n → suc (leftCourse (courseOf r)) ≤ n
+reached-left (reached.At s p) n h = h
+reached-left (reached.Ended v) n h = h
+
+pub step-scaled : (s : scaled.Stage) (p : scaled-place.Place) (n : Counts) (b : Bank) (e : Entry) (r : Reached) → Gave (comingScaled s p) (leftAt s p) (gave.Entry e r) → Sound (plannerAt (course.Scaled s p) n)
+    → StepIs (plannerAt (course.Scaled s p) n) b (giveOf (courseOf r) n b e)
+step-scaled s p n b e r g h =
+    step-given (course.Scaled s p) (courseOf r) n b e (g .0 ∙ ap (cons e) (sym (reached-is r))) (g .1 .1 .1) (reached-sound r (g .1 .0)) (reached-left r (leftAt s p) (g .1 .1 .0)) h

@@ -1,17 +1,25 @@
-// An entry's words in the caller's buffer.
+// Words put into a buffer that the caller lends.
 ghost use mathlib.Core.Path.{_≡_};
 ghost use Prim.Native.Nat.{_≤_, _+_};
 ghost use lib.ListN.{length};
 ghost use lib.Seq.{paste};
 
-// Eleven words at a place of the buffer.
+// All of `from`, at a place of `to`.
+pub(crate) fn put(to: &mut [u64], at: usize, from: &[u64])
+    requires { ⌜ at + length (now from) ≤ length (now to) ⌝ }
+    ensures { λ _. ⌜ now (to .exit) ≡ paste (now (to .entry)) at (now (from .entry)) (length (now (from .entry))) ⌝ }
+{
+    let mut j: usize = 0;
+    while j < from.len() {
+        to[at + j] = from[j];
+        j = j + 1;
+    }
+}
+
+// An entry's eleven words.
 pub fn store(plan: &mut [u64], at: usize, words: [u64; 11])
     requires { ⌜ at + 11 ≤ length (now plan) ⌝ }
     ensures { λ _. ⌜ now (plan .exit) ≡ paste (now (plan .entry)) at words 11 ⌝ }
 {
-    let mut j: usize = 0;
-    while j < 11 {
-        plan[at + j] = words[j];
-        j = j + 1;
-    }
+    put(&mut *plan, at, &words);
 }

@@ -41,6 +41,7 @@ pub fn counted(n: Counts, e: Entry) -> Counts
     next
 }
 
+// The end that these counts and a verdict make.
 pub fn end_of(n: Counts, v: Verdict) -> End
     ensures { λ r. ⌜ r ≡ endWith n v ⌝ }
 {

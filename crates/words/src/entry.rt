@@ -169,7 +169,7 @@ fn described(
     }
 }
 
-// A load sets its tile's size itself.
+// The bank once an entry is given; a load sets its tile's size itself.
 pub fn bank_after(bank: Bank, e: Entry) -> Bank
     ensures { λ r. ⌜ r ≡ bankStep bank e ⌝ }
 {
@@ -203,7 +203,7 @@ pub fn bank_after(bank: Bank, e: Entry) -> Bank
             lrs,
             lrt,
             ..
-        } => with_tile_size(bank, index as usize, uls, ult, lrs, lrt),
+        } => with_tile_size(bank, index as usize, uls, ult, lrs, lrt), // no entry of its own
         Entry::Image { .. } => bank,
         Entry::Rect { .. } => bank,
     }

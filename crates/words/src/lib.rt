@@ -2,6 +2,7 @@
 mod buffer;
 mod count;
 mod entry;
+mod host;
 
 pub use buffer::store;
 pub use count::Counts;
@@ -9,3 +10,6 @@ pub use count::counted;
 pub use count::end_of;
 pub use entry::bank_after;
 pub use entry::entry_words;
+pub use host::bank_from;
+pub use host::bank_into;
+pub use host::end_into;

@@ -2,7 +2,7 @@
 ghost use mathlib.Core.Path.{_≡_};
 ghost use Rattle.planner.specs.Coming.{Sound};
 ghost use Rattle.planner.specs.Ran.{RanIs, FinishIs};
-use crate::fresh::fresh;
+use crate::start::fresh;
 use crate::types::Planner;
 use crate::types::Ran;
 use object::Scissor;

@@ -1,0 +1,226 @@
+//! The proved planner and the original Rust side by side on the same records.
+//!
+//! Usage: bench [ROUNDS]
+//!
+//! The Rust is the published text over shims that only store each call's entry, built for release.
+//! Both write eleven words an entry into a buffer that has been written before. A round runs all
+//! records of a group through one and then through the other; the best round of each counts.
+
+#![allow(dead_code, unused_imports, unexpected_cfgs)]
+
+mod cases;
+mod diag;
+mod entry;
+mod generate;
+mod hle;
+mod inspect;
+mod machine;
+#[path = "store.rs"]
+mod plan;
+mod proved;
+mod random;
+mod record;
+mod scene;
+
+pub use diag::{DiagKind, Diagnostic, MemoryAccess};
+pub use hle::mem::{MemoryError, MemoryErrorKind};
+
+use generate::Mode;
+use hle::rsp_s2dex2::{bg_1cyc, bg_copy};
+use machine::{CaseMemory, Machine, Planner};
+use plan::Plan;
+use proved::{BANK_WORDS, END_WORDS, REQUEST_WORDS};
+use random::Random;
+use record::{Bank, Object, Record, COPY, SCALED};
+use std::time::{Duration, Instant};
+
+struct Group {
+    name: &'static str,
+    records: Vec<Record>,
+    /// How often a round runs each record.
+    times: usize,
+}
+
+fn named(names: &[&str]) -> Vec<Record> {
+    let all = cases::all();
+    names
+        .iter()
+        .map(|name| all.iter().find(|c| c.name == *name).expect("a case").record)
+        .collect()
+}
+
+/// The longest copy plan there is: an image of one cell, a frame of 1,023 by 1,023.
+fn largest() -> Record {
+    let mut record = named(&["L"])[0];
+    let object = Object {
+        image_w: 4,
+        image_h: 4,
+        frame_w: 4092,
+        frame_h: 4092,
+        siz: 2,
+        load: 0xfff4,
+        tail: [0, 4, 4, 0, 1, 0],
+        ..Default::default()
+    };
+    record.object = object.to_bytes();
+    record.scissor = [0, 0, 1023, 1023];
+    record
+}
+
+fn random(mode: Mode) -> Vec<Record> {
+    let mut random = Random(1);
+    let records = (0..4_000).map(|_| generate::generate(&mut random, mode));
+    records
+        .filter(|r| [COPY, SCALED].contains(&r.opcode) && r.scissor.iter().all(|e| *e < 1024))
+        .collect()
+}
+
+fn groups() -> Vec<Group> {
+    let group = |name, records, times| Group {
+        name,
+        records,
+        times,
+    };
+    vec![
+        group("small: L", named(&["L"]), 20_000),
+        group("small: C", named(&["C"]), 20_000),
+        group("small: G", named(&["G"]), 20_000),
+        group("refused: D", named(&["D"]), 20_000),
+        group("refused: N in copy mode", named(&["N-copy"]), 20_000),
+        group("typical: A", named(&["A"]), 1_000),
+        group("typical: E", named(&["E"]), 1_000),
+        group("typical: H", named(&["H"]), 1_000),
+        group("random copy plans", random(Mode::Copy), 1),
+        group("random scaled plans", random(Mode::Scaled), 1),
+        group("largest", vec![largest()], 1),
+    ]
+}
+
+/// The original Rust, with the state that it keeps between commands.
+struct Original {
+    machine: Machine,
+    bank: Bank,
+}
+
+impl Original {
+    fn new(words: usize) -> Self {
+        let plan = Plan {
+            words: vec![1; words],
+            at: 0,
+        };
+        Original {
+            machine: Machine::new(Bank::default(), plan),
+            bank: Bank::default(),
+        }
+    }
+
+    /// The entries of a record's plan.
+    fn run(&mut self, record: &Record) -> usize {
+        let planner: Planner = if record.opcode == COPY {
+            bg_copy
+        } else {
+            bg_1cyc
+        };
+        self.machine.rdp.tiles = self.bank.clone();
+        self.machine.rsp.plan.at = 0;
+        self.machine.diagnostics.clear();
+        let memory = CaseMemory::new(&record.object, record.address, false);
+        self.machine.call(planner, record, memory);
+        self.machine.rsp.plan.at / 11
+    }
+}
+
+struct Proved {
+    words: Vec<u64>,
+}
+
+impl Proved {
+    fn run(&mut self, record: &Record) -> usize {
+        let [ulx, uly, lrx, lry] = record.scissor.map(u64::from);
+        let request: [u64; REQUEST_WORDS] = [
+            record.opcode.into(),
+            ulx,
+            uly,
+            lrx,
+            lry,
+            record.render_mode.into(),
+            record.address,
+        ];
+        let mut bank = [0; BANK_WORDS];
+        let mut end = [0; END_WORDS];
+        proved::run(
+            &record.object,
+            &request,
+            &mut bank,
+            &mut self.words,
+            &mut end,
+        );
+        end[1] as usize
+    }
+}
+
+fn timed(group: &Group, mut run: impl FnMut(&Record) -> usize) -> (Duration, usize) {
+    let start = Instant::now();
+    let mut entries = 0;
+    for _ in 0..group.times {
+        for record in &group.records {
+            entries += run(std::hint::black_box(record));
+        }
+    }
+    (start.elapsed(), entries)
+}
+
+/// Both must store the same words; the rectangles' image row is the proved code's alone.
+fn assert_same(group: &Group, proved: &mut Proved, original: &mut Original) {
+    for record in &group.records {
+        let count = proved.run(record);
+        assert_eq!(count, original.run(record));
+        let words = original.machine.rsp.plan.words.chunks_exact(11);
+        for (mine, theirs) in proved.words.chunks_exact(11).zip(words).take(count) {
+            let compared = if mine[0] == entry::RECTANGLE { 10 } else { 11 };
+            assert_eq!(mine[..compared], theirs[..compared]);
+        }
+    }
+}
+
+fn main() {
+    let rounds: usize = std::env::args()
+        .nth(1)
+        .map_or(9, |n| n.parse().expect("rounds"));
+    let groups = groups();
+    let words = 5_232_646 * 11;
+    let mut original = Original::new(words);
+    let mut proved = Proved {
+        words: vec![1; words],
+    };
+    println!(
+        "{:<25}{:>9}{:>13}{:>13}{:>13}{:>13}{:>7}",
+        "", "entries", "plans/s", "entries/s", "plans/s", "entries/s", ""
+    );
+    println!(
+        "{:<25}{:>9}{:>26}{:>26}{:>7}",
+        "", "a plan", "proved", "Rust", "ratio"
+    );
+    for group in &groups {
+        assert_same(group, &mut proved, &mut original);
+        let (mut best_proved, mut best_rust, mut entries) = (Duration::MAX, Duration::MAX, 0);
+        for _ in 0..rounds {
+            let (time, count) = timed(group, |record| proved.run(record));
+            best_proved = best_proved.min(time);
+            best_rust = best_rust.min(timed(group, |record| original.run(record)).0);
+            entries = count;
+        }
+        let plans = (group.times * group.records.len()) as f64;
+        let (a, b) = (best_proved.as_secs_f64(), best_rust.as_secs_f64());
+        println!(
+            "{:<25}{:>9.1}{:>13.0}{:>13.0}{:>13.0}{:>13.0}{:>7.2}",
+            group.name,
+            entries as f64 / plans,
+            plans / a,
+            entries as f64 / a,
+            plans / b,
+            entries as f64 / b,
+            b / a
+        );
+    }
+}

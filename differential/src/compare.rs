@@ -1,0 +1,558 @@
+//! Holds the proved planner against the original Rust on random records, word by word.
+//!
+//! Usage: compare RECORDS [SEED [THREADS]]
+//!        compare --record HEX [OBJECT_BYTES [BANK_SEED]]
+//!
+//! Records come in blocks of 1,000, each of one mode of the generator and from a seed of its own,
+//! so that the same records are compared whatever the number of threads. Each record has its own
+//! random bank and is run into a buffer with room for all, into one that is too short by 0 to 11
+//! words and, now and then, into one of any length and one of no words.
+
+#![allow(dead_code, unused_imports, unexpected_cfgs)]
+
+mod diag;
+mod entry;
+mod fnv;
+mod generate;
+mod hle;
+mod inspect;
+mod machine;
+mod plan;
+mod proved;
+mod random;
+mod record;
+mod run;
+mod scene;
+
+pub use diag::{DiagKind, Diagnostic, MemoryAccess};
+pub use hle::mem::{MemoryError, MemoryErrorKind};
+
+use generate::Mode;
+use plan::{End, Sink};
+use proved::{BANK_WORDS, END_WORDS, REQUEST_WORDS};
+use random::Random;
+use record::{initial_bank, tile_fields, Record, COPY, OBJECT_BYTES, RECORD_BYTES, SCALED};
+use run::{run, Answer, Settings};
+use std::fmt::Write;
+use std::panic::{catch_unwind, AssertUnwindSafe};
+use std::sync::atomic::{AtomicBool, AtomicU64, Ordering};
+use std::sync::Mutex;
+use std::time::Instant;
+
+const BLOCK: u64 = 1_000;
+const MODES: [(&str, Mode); 8] = [
+    ("mixed", Mode::Mixed),
+    ("copy", Mode::Copy),
+    ("scaled", Mode::Scaled),
+    ("thin", Mode::Thin),
+    ("whole", Mode::Whole),
+    ("corners", Mode::Corners),
+    ("damaged", Mode::Damaged),
+    ("wild", Mode::Wild),
+];
+/// Words before and after each buffer that no call may change.
+const GUARD: usize = 16;
+
+/// A record with what goes in beside it.
+#[derive(Clone)]
+struct Case {
+    record: Record,
+    /// The object as the proved code gets it: 40 bytes, fewer, or more than are read.
+    object: Vec<u8>,
+    /// The scissor as the proved code gets it. Where an edge is no 16-bit number the record has
+    /// 65,535 in its place, which the verdict 3 refuses just as well.
+    edges: [i32; 4],
+    bank_seed: Option<u64>,
+    /// Chooses the buffers' lengths and what stands in them before.
+    draw: u64,
+}
+
+impl Case {
+    fn random(random: &mut Random, mode: Mode) -> Case {
+        let mut record = generate::generate(random, mode);
+        let mut object = record.object.to_vec();
+        match random.below(16) {
+            0 => object.truncate(random.pick(&[0, 1, 15, 28, 32, 34, 35, 36, 37, 38, 39])),
+            1 => object.extend((0..random.within(1, 24)).map(|_| random.next() as u8)),
+            _ => {}
+        }
+        let mut edges = record.scissor.map(i32::from);
+        if random.once_in(300) {
+            let place = random.below(4) as usize;
+            record.scissor[place] = u16::MAX;
+            edges[place] = random.pick(&[-1, -4, -1024, i32::MIN, 65_536, i32::MAX]);
+        }
+        Case {
+            record,
+            object,
+            edges,
+            bank_seed: Some(random.next()),
+            draw: random.next(),
+        }
+    }
+
+    fn settings(&self, capacity: u64) -> Settings {
+        Settings {
+            bank: initial_bank(self.bank_seed),
+            object_bytes: self.object.len().min(OBJECT_BYTES),
+            capacity,
+            span_check: false,
+        }
+    }
+
+    fn request(&self) -> [u64; REQUEST_WORDS] {
+        let [ulx, uly, lrx, lry] = self.edges.map(|edge| i64::from(edge) as u64);
+        [
+            self.record.opcode.into(),
+            ulx,
+            uly,
+            lrx,
+            lry,
+            self.record.render_mode.into(),
+            self.record.address,
+        ]
+    }
+}
+
+/// A buffer between guard words, all filled with one mark.
+struct Guarded {
+    words: Vec<u64>,
+    length: usize,
+    mark: u64,
+}
+
+impl Guarded {
+    fn new() -> Self {
+        Guarded {
+            words: Vec::new(),
+            length: 0,
+            mark: 0,
+        }
+    }
+
+    fn fill(&mut self, length: usize, mark: u64) -> &mut [u64] {
+        (self.length, self.mark) = (length, mark);
+        self.words.clear();
+        self.words.resize(length + 2 * GUARD, mark);
+        &mut self.words[GUARD..GUARD + length]
+    }
+
+    fn inside(&self) -> &[u64] {
+        &self.words[GUARD..GUARD + self.length]
+    }
+
+    /// Whether all words but the first `written` inside are as they were.
+    fn untouched_but(&self, written: usize) -> bool {
+        let (before, rest) = self.words.split_at(GUARD);
+        before
+            .iter()
+            .chain(&rest[written..])
+            .all(|w| *w == self.mark)
+    }
+}
+
+struct Buffers {
+    bank: Guarded,
+    plan: Guarded,
+    end: Guarded,
+}
+
+impl Buffers {
+    fn new() -> Self {
+        Buffers {
+            bank: Guarded::new(),
+            plan: Guarded::new(),
+            end: Guarded::new(),
+        }
+    }
+}
+
+#[derive(Clone, Default)]
+struct Tally {
+    records: u64,
+    runs: u64,
+    entries: u64,
+    most: u64,
+    short_objects: u64,
+    /// Verdicts of the runs, by copy, scaled and other opcodes.
+    verdicts: [[u64; 11]; 3],
+}
+
+impl Tally {
+    fn run(&mut self, record: &Record, end: &End) {
+        let mode = match record.opcode {
+            COPY => 0,
+            SCALED => 1,
+            _ => 2,
+        };
+        self.runs += 1;
+        self.entries += end.entries;
+        self.most = self.most.max(end.entries);
+        self.verdicts[mode][end.verdict as usize] += 1;
+    }
+
+    fn add(&mut self, other: &Tally) {
+        self.records += other.records;
+        self.runs += other.runs;
+        self.entries += other.entries;
+        self.most = self.most.max(other.most);
+        self.short_objects += other.short_objects;
+        for (mine, theirs) in self.verdicts.iter_mut().zip(&other.verdicts) {
+            for (a, b) in mine.iter_mut().zip(theirs) {
+                *a += b;
+            }
+        }
+    }
+
+    fn print(&self) {
+        println!("verdict        copy      scaled       other");
+        for verdict in 0..11 {
+            let [copy, scaled, other] = [0, 1, 2].map(|mode: usize| self.verdicts[mode][verdict]);
+            println!("{verdict:<7}{copy:>12}{scaled:>12}{other:>12}");
+        }
+        println!(
+            "{} records, {} of them with fewer than 40 bytes of object; {} runs, {} entries, \
+             at most {} in a plan",
+            self.records, self.short_objects, self.runs, self.entries, self.most
+        );
+    }
+}
+
+/// The buffer lengths that a plan of so many entries is run into.
+fn rooms(entries: u64, random: &mut Random) -> Vec<usize> {
+    let whole = 11 * entries as usize;
+    let mut rooms = vec![
+        whole + random.below(23) as usize,
+        whole.saturating_sub(random.below(12) as usize),
+    ];
+    match random.below(16) {
+        0 => rooms.push(0),
+        1 => rooms.push(random.below(whole as u64 + 1) as usize),
+        _ => {}
+    }
+    rooms
+}
+
+/// Runs a case into each of its buffers; the first difference, as text.
+fn compare(case: &Case, buffers: &mut Buffers, tally: &mut Tally) -> Option<String> {
+    let asked = |capacity, sink| {
+        catch_unwind(AssertUnwindSafe(|| {
+            run(&case.record, &case.settings(capacity), sink)
+        }))
+        .ok()
+    };
+    let Some(whole) = asked(u64::MAX, Sink::Keep) else {
+        return Some("the original Rust panicked\n".to_string());
+    };
+    tally.records += 1;
+    tally.short_objects += u64::from(case.object.len() < OBJECT_BYTES);
+    let mut random = Random(case.draw);
+    for room in rooms(whole.end.entries, &mut random) {
+        let mut expected = None;
+        if room < 11 * whole.end.entries as usize {
+            expected = asked(room as u64, Sink::Nothing);
+            if expected.is_none() {
+                return Some("the original Rust panicked\n".to_string());
+            }
+        }
+        let expected = expected.as_ref().unwrap_or(&whole);
+        tally.run(&case.record, &expected.end);
+        let status = run_proved(case, room, random.next(), buffers);
+        if let Some(text) = difference(&whole.plan.entries, expected, status, buffers) {
+            return Some(format!("buffer of {room} words\n{text}"));
+        }
+    }
+    None
+}
+
+fn run_proved(case: &Case, room: usize, mark: u64, buffers: &mut Buffers) -> u64 {
+    let bank = buffers.bank.fill(BANK_WORDS, mark);
+    for (words, tile) in bank.chunks_mut(17).zip(&initial_bank(case.bank_seed)) {
+        words.copy_from_slice(&tile_fields(tile));
+    }
+    let plan = buffers.plan.fill(room, mark);
+    let end = buffers.end.fill(END_WORDS, mark);
+    proved::run(&case.object, &case.request(), bank, plan, end)
+}
+
+/// What the proved run left, held against what it should have left. `entries` are those of the
+/// plan without a limit, of which the expected answer has the first ones.
+fn difference(
+    entries: &[entry::Entry],
+    expected: &Answer,
+    status: u64,
+    buffers: &Buffers,
+) -> Option<String> {
+    let mut text = String::new();
+    let end = expected.end;
+    let numbers = [end.verdict, end.entries, end.rectangles, end.tile_words];
+    if status != 0 || buffers.end.inside() != numbers {
+        let given = buffers.end.inside();
+        writeln!(
+            text,
+            "end: Rust {numbers:?}, proved {given:?}, returned {status}"
+        )
+        .unwrap();
+    }
+    let count = end.entries as usize;
+    let mut words = buffers.plan.inside().chunks_exact(11);
+    for (n, entry) in entries[..count].iter().enumerate() {
+        let given = words.next().unwrap_or(&[]);
+        if given != entry {
+            writeln!(text, "entry {n}: Rust {entry:?}\n  proved {given:?}").unwrap();
+            break;
+        }
+    }
+    for (n, (tile, given)) in expected
+        .bank
+        .iter()
+        .zip(buffers.bank.inside().chunks(17))
+        .enumerate()
+    {
+        let fields = tile_fields(tile);
+        if given != fields {
+            writeln!(text, "tile {n}: Rust {fields:?}\n  proved {given:?}").unwrap();
+        }
+    }
+    if !buffers.plan.untouched_but(11 * count) {
+        text.push_str(
+            "words of the plan buffer beyond the last entry, or around it, are changed\n",
+        );
+    }
+    if !buffers.bank.untouched_but(BANK_WORDS) || !buffers.end.untouched_but(END_WORDS) {
+        text.push_str("words around the bank or the end are changed\n");
+    }
+    (!text.is_empty()).then_some(text)
+}
+
+/// Lengths that the interface refuses: 1 is returned and nothing is written.
+fn refused_lengths() -> Option<String> {
+    let sizes = [
+        (REQUEST_WORDS - 1, BANK_WORDS, END_WORDS),
+        (REQUEST_WORDS + 1, BANK_WORDS, END_WORDS),
+        (REQUEST_WORDS, BANK_WORDS - 1, END_WORDS),
+        (REQUEST_WORDS, BANK_WORDS + 17, END_WORDS),
+        (REQUEST_WORDS, BANK_WORDS, END_WORDS - 1),
+        (REQUEST_WORDS, BANK_WORDS, END_WORDS + 1),
+        (0, 0, 0),
+    ];
+    let mut buffers = Buffers::new();
+    for (request, bank, end) in sizes {
+        let words = vec![10; request];
+        let status = proved::run(
+            &[0; OBJECT_BYTES],
+            &words,
+            buffers.bank.fill(bank, 77),
+            buffers.plan.fill(110, 77),
+            buffers.end.fill(end, 77),
+        );
+        let kept = [&buffers.bank, &buffers.plan, &buffers.end]
+            .iter()
+            .all(|b| b.untouched_but(0));
+        if status != 1 || !kept {
+            return Some(format!(
+                "request {request}, bank {bank}, end {end} words: returned {status}, {}\n",
+                if kept {
+                    "nothing written"
+                } else {
+                    "something written"
+                }
+            ));
+        }
+    }
+    None
+}
+
+fn hex(bytes: &[u8]) -> String {
+    bytes.iter().map(|b| format!("{b:02x}")).collect()
+}
+
+fn differs(case: &Case) -> bool {
+    compare(case, &mut Buffers::new(), &mut Tally::default()).is_some()
+}
+
+/// The case with one byte of its record set to 0; nothing if it is.
+fn without(case: &Case, at: usize) -> Option<Case> {
+    let mut bytes = case.record.to_bytes();
+    if bytes[at] == 0 {
+        return None;
+    }
+    bytes[at] = 0;
+    let mut simpler = case.clone();
+    simpler.record = Record::from_bytes(&bytes);
+    if at < simpler.object.len().min(OBJECT_BYTES) {
+        simpler.object[at] = 0;
+    }
+    if (40..48).contains(&at) {
+        simpler.edges = simpler.record.scissor.map(i32::from);
+    }
+    Some(simpler)
+}
+
+/// The case made simpler as long as some difference stays, so that few numbers are left to read.
+fn reduced(case: &Case) -> Case {
+    let mut least = case.clone();
+    let whole = Case {
+        object: least.record.object.to_vec(),
+        ..least.clone()
+    };
+    if differs(&whole) {
+        least = whole;
+    }
+    let clear = Case {
+        bank_seed: None,
+        ..least.clone()
+    };
+    if differs(&clear) {
+        least = clear;
+    }
+    let mut again = true;
+    while again {
+        again = false;
+        for at in 0..RECORD_BYTES {
+            if let Some(simpler) = without(&least, at).filter(differs) {
+                least = simpler;
+                again = true;
+            }
+        }
+    }
+    least
+}
+
+fn describe(case: &Case, text: &str) -> String {
+    let Case {
+        record,
+        object,
+        edges,
+        bank_seed,
+        ..
+    } = case;
+    let bank = bank_seed.map_or("zeros".to_string(), |seed| format!("seed {seed}"));
+    format!(
+        "record {}\nobject of {} bytes {}, scissor {edges:?}, bank from {bank}\n{text}",
+        hex(&record.to_bytes()),
+        object.len(),
+        hex(object)
+    )
+}
+
+fn block_seed(seed: u64, block: u64) -> u64 {
+    Random(seed ^ block.wrapping_mul(0xd6e8_feb8_6659_fd93)).next()
+}
+
+/// One block of records; the first difference, with the record's number.
+fn compare_block(seed: u64, block: u64, count: u64, tally: &mut Tally) -> Option<(u64, String)> {
+    let mut random = Random(block_seed(seed, block));
+    let mode = MODES[(block % MODES.len() as u64) as usize].1;
+    let mut buffers = Buffers::new();
+    for n in 0..count {
+        let case = Case::random(&mut random, mode);
+        if let Some(text) = compare(&case, &mut buffers, tally) {
+            let least = reduced(&case);
+            let again = compare(&least, &mut buffers, &mut Tally::default()).unwrap_or_default();
+            let both = format!(
+                "{}\nreduced:\n{}",
+                describe(&case, &text),
+                describe(&least, &again)
+            );
+            return Some((block * BLOCK + n, both));
+        }
+    }
+    None
+}
+
+fn compare_all(records: u64, seed: u64, threads: usize) -> (Tally, Option<(u64, String)>) {
+    let (next, stop) = (AtomicU64::new(0), AtomicBool::new(false));
+    let shared: Mutex<(Tally, Option<(u64, String)>)> = Mutex::default();
+    std::thread::scope(|scope| {
+        for _ in 0..threads {
+            scope.spawn(|| {
+                let mut tally = Tally::default();
+                let mut first = None;
+                while first.is_none() && !stop.load(Ordering::Relaxed) {
+                    let block = next.fetch_add(1, Ordering::Relaxed);
+                    if block * BLOCK >= records {
+                        break;
+                    }
+                    let count = BLOCK.min(records - block * BLOCK);
+                    first = compare_block(seed, block, count, &mut tally);
+                }
+                let mut shared = shared.lock().unwrap();
+                shared.0.add(&tally);
+                if let Some(found) = first {
+                    stop.store(true, Ordering::Relaxed);
+                    if shared.1.as_ref().is_none_or(|(n, _)| found.0 < *n) {
+                        shared.1 = Some(found);
+                    }
+                }
+            });
+        }
+    });
+    shared.into_inner().unwrap()
+}
+
+fn single(arguments: &[String]) -> Option<String> {
+    let digits = arguments.first().map_or("", |a| a.as_str());
+    let bytes: Vec<u8> = (0..digits.len() / 2)
+        .filter_map(|n| u8::from_str_radix(digits.get(2 * n..2 * n + 2)?, 16).ok())
+        .collect();
+    let Ok(bytes) = <[u8; RECORD_BYTES]>::try_from(bytes) else {
+        usage();
+    };
+    let record = Record::from_bytes(&bytes);
+    let length = arguments
+        .get(1)
+        .map_or(OBJECT_BYTES, |n| number(n) as usize);
+    let case = Case {
+        record,
+        object: record.object[..length.min(OBJECT_BYTES)].to_vec(),
+        edges: record.scissor.map(i32::from),
+        bank_seed: arguments.get(2).map(|n| number(n)),
+        draw: 0,
+    };
+    let text = compare(&case, &mut Buffers::new(), &mut Tally::default());
+    text.map(|text| describe(&case, &text))
+}
+
+fn number(text: &str) -> u64 {
+    text.parse().unwrap_or_else(|_| usage())
+}
+
+fn usage() -> ! {
+    eprintln!("compare RECORDS [SEED [THREADS]]\ncompare --record HEX [OBJECT_BYTES [BANK_SEED]]");
+    std::process::exit(2);
+}
+
+fn finish(difference: Option<String>) -> ! {
+    match difference {
+        None => std::process::exit(0),
+        Some(text) => {
+            print!("DIFFERENCE\n{text}");
+            std::process::exit(1);
+        }
+    }
+}
+
+fn main() {
+    let arguments: Vec<String> = std::env::args().skip(1).collect();
+    match arguments.first() {
+        None => usage(),
+        Some(first) if first == "--record" => finish(single(&arguments[1..])),
+        Some(_) => {}
+    }
+    let records = number(&arguments[0]);
+    let seed = arguments.get(1).map_or(1, |n| number(n));
+    let threads = arguments.get(2).map_or(2, |n| number(n) as usize).max(1);
+    if let Some(text) = refused_lengths() {
+        finish(Some(text));
+    }
+    let names: Vec<&str> = MODES.iter().map(|(name, _)| *name).collect();
+    println!("seed {seed}, modes {}, {threads} threads", names.join(" "));
+    let start = Instant::now();
+    let (tally, found) = compare_all(records, seed, threads);
+    tally.print();
+    if let Some((n, text)) = found {
+        finish(Some(format!("record number {n}\n{text}")));
+    }
+    println!("no difference, {:.1} s", start.elapsed().as_secs_f64());
+}

@@ -1,0 +1,45 @@
+//! The proved planner, through the C interface of its static library (host/include/visorlongan.h).
+
+pub const REQUEST_WORDS: usize = 7;
+pub const BANK_WORDS: usize = 136;
+pub const END_WORDS: usize = 4;
+
+extern "C" {
+    fn bg_run(
+        object: *const u8,
+        object_len: usize,
+        request: *const u64,
+        request_len: usize,
+        bank: *mut u64,
+        bank_len: usize,
+        plan: *mut u64,
+        plan_len: usize,
+        end: *mut u64,
+        end_len: usize,
+    ) -> u64;
+}
+
+/// A whole run: 0, or 1 where request, bank or end has the wrong number of words.
+pub fn run(
+    object: &[u8],
+    request: &[u64],
+    bank: &mut [u64],
+    plan: &mut [u64],
+    end: &mut [u64],
+) -> u64 {
+    // The library stays inside the lengths that it is given; the slices cannot overlap.
+    unsafe {
+        bg_run(
+            object.as_ptr(),
+            object.len(),
+            request.as_ptr(),
+            request.len(),
+            bank.as_mut_ptr(),
+            bank.len(),
+            plan.as_mut_ptr(),
+            plan.len(),
+            end.as_mut_ptr(),
+            end.len(),
+        )
+    }
+}

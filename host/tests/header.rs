@@ -1,0 +1,44 @@
+//! The C header, compiled by the machine's C compiler and linked to the library. Where there is no
+//! compiler the test says so and passes.
+
+use std::process::Command;
+
+const PROGRAM: &str = r#"
+#include "visorlongan.h"
+#include <stdio.h>
+
+int main(void) {
+    uint8_t object[40] = {0};
+    object[3] = 64; object[7] = 64; object[11] = 8; object[15] = 8;
+    object[20] = 0xff; object[21] = 0xf4; object[23] = 2;
+    object[31] = 8; object[33] = 8; object[37] = 1;
+    uint64_t request[BG_REQUEST_WORDS] = {10, 0, 0, 320, 240, 0, 4096};
+    uint64_t bank[BG_BANK_WORDS] = {0};
+    uint64_t plan[6 * BG_ENTRY_WORDS];
+    uint64_t end[BG_END_WORDS];
+    uint64_t status = bg_run(object, 40, request, BG_REQUEST_WORDS, bank, BG_BANK_WORDS,
+                             plan, 6 * BG_ENTRY_WORDS, end, BG_END_WORDS);
+    printf("%d %d %d %d %d\n", (int)status, (int)end[0], (int)end[1], (int)end[2], (int)end[3]);
+    return 0;
+}
+"#;
+
+#[test]
+fn the_header_compiles_and_links() {
+    if Command::new("cc").arg("--version").output().is_err() {
+        eprintln!("no C compiler here: the header is not tried");
+        return;
+    }
+    let folder = env!("CARGO_TARGET_TMPDIR");
+    let (source, program) = (format!("{folder}/header.c"), format!("{folder}/header"));
+    std::fs::write(&source, PROGRAM).expect("a file");
+    let compiled = Command::new("cc")
+        .args(["-std=c99", "-Wall", "-Wextra", "-Werror", "-I"])
+        .arg(concat!(env!("CARGO_MANIFEST_DIR"), "/include"))
+        .args(["-o", &program, &source, env!("LIBRARY")])
+        .status()
+        .expect("cc");
+    assert!(compiled.success());
+    let output = Command::new(&program).output().expect("the program");
+    assert_eq!(String::from_utf8_lossy(&output.stdout), "0 0 6 1 8\n");
+}
