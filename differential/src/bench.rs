@@ -10,6 +10,7 @@
 
 mod cases;
 mod diag;
+mod edges;
 mod entry;
 mod generate;
 mod hle;
@@ -31,7 +32,7 @@ use machine::{CaseMemory, Machine, Planner};
 use plan::Plan;
 use proved::{BANK_WORDS, END_WORDS, REQUEST_WORDS};
 use random::Random;
-use record::{Bank, Object, Record, COPY, SCALED};
+use record::{Bank, Record, COPY, SCALED};
 use std::time::{Duration, Instant};
 
 struct Group {
@@ -47,24 +48,6 @@ fn named(names: &[&str]) -> Vec<Record> {
         .iter()
         .map(|name| all.iter().find(|c| c.name == *name).expect("a case").record)
         .collect()
-}
-
-/// The longest copy plan there is: an image of one cell, a frame of 1,023 by 1,023.
-fn largest() -> Record {
-    let mut record = named(&["L"])[0];
-    let object = Object {
-        image_w: 4,
-        image_h: 4,
-        frame_w: 4092,
-        frame_h: 4092,
-        siz: 2,
-        load: 0xfff4,
-        tail: [0, 4, 4, 0, 1, 0],
-        ..Default::default()
-    };
-    record.object = object.to_bytes();
-    record.scissor = [0, 0, 1023, 1023];
-    record
 }
 
 fn random(mode: Mode) -> Vec<Record> {
@@ -92,7 +75,7 @@ fn groups() -> Vec<Group> {
         group("typical: H", named(&["H"]), 1_000),
         group("random copy plans", random(Mode::Copy), 1),
         group("random scaled plans", random(Mode::Scaled), 1),
-        group("largest", vec![largest()], 1),
+        group("largest", vec![edges::largest()], 1),
     ]
 }
 

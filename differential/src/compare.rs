@@ -3,14 +3,17 @@
 //! Usage: compare RECORDS [SEED [THREADS]]
 //!        compare --record HEX [OBJECT_BYTES [BANK_SEED]]
 //!
-//! Records come in blocks of 1,000, each of one mode of the generator and from a seed of its own,
+//! Document 01's cases, the records of edges.rs and the longest plan come first. Random records come
+//! in blocks of 1,000, each of one mode of the generator and from a seed of its own,
 //! so that the same records are compared whatever the number of threads. Each record has its own
 //! random bank and is run into a buffer with room for all, into one that is too short by 0 to 11
 //! words and, now and then, into one of any length and one of no words.
 
 #![allow(dead_code, unused_imports, unexpected_cfgs)]
 
+mod cases;
 mod diag;
+mod edges;
 mod entry;
 mod fnv;
 mod generate;
@@ -59,10 +62,12 @@ struct Case {
     record: Record,
     /// The object as the proved code gets it: 40 bytes, fewer, or more than are read.
     object: Vec<u8>,
-    /// The scissor as the proved code gets it. Where an edge is no 16-bit number the record has
-    /// 65,535 in its place, which the verdict 3 refuses just as well.
-    edges: [i32; 4],
+    /// The request as the proved code gets it. Where an edge or the opcode is wider than in the
+    /// record, the record has 65,535 or 0 in its place, which is refused just as well.
+    request: [u64; REQUEST_WORDS],
     bank_seed: Option<u64>,
+    /// The bank's words have bits above their fields' widths, which are to be cut.
+    wide_bank: bool,
     /// Chooses the buffers' lengths and what stands in them before.
     draw: u64,
 }
@@ -76,18 +81,28 @@ impl Case {
             1 => object.extend((0..random.within(1, 24)).map(|_| random.next() as u8)),
             _ => {}
         }
-        let mut edges = record.scissor.map(i32::from);
-        if random.once_in(300) {
-            let place = random.below(4) as usize;
-            record.scissor[place] = u16::MAX;
-            edges[place] = random.pick(&[-1, -4, -1024, i32::MIN, 65_536, i32::MAX]);
+        let wide = widened(random, &mut record);
+        let mut case = Case {
+            object,
+            bank_seed: Some(random.next()),
+            wide_bank: random.once_in(16),
+            draw: random.next(),
+            ..Case::fixed(record, OBJECT_BYTES)
+        };
+        for (place, word) in wide {
+            case.request[place] = word;
         }
+        case
+    }
+
+    fn fixed(record: Record, object_bytes: usize) -> Case {
         Case {
             record,
-            object,
-            edges,
-            bank_seed: Some(random.next()),
-            draw: random.next(),
+            object: record.object[..object_bytes].to_vec(),
+            request: request(&record),
+            bank_seed: Some(1),
+            wide_bank: false,
+            draw: 1,
         }
     }
 
@@ -99,19 +114,37 @@ impl Case {
             span_check: false,
         }
     }
+}
 
-    fn request(&self) -> [u64; REQUEST_WORDS] {
-        let [ulx, uly, lrx, lry] = self.edges.map(|edge| i64::from(edge) as u64);
-        [
-            self.record.opcode.into(),
-            ulx,
-            uly,
-            lrx,
-            lry,
-            self.record.render_mode.into(),
-            self.record.address,
-        ]
+fn request(record: &Record) -> [u64; REQUEST_WORDS] {
+    let [ulx, uly, lrx, lry] = record.scissor.map(u64::from);
+    let (mode, address) = (record.render_mode.into(), record.address);
+    [record.opcode.into(), ulx, uly, lrx, lry, mode, address]
+}
+
+/// Now and then a word of the request that the record's bytes cannot hold: an opcode above 255, an
+/// edge that is negative or above 65,535, a render mode with bits above the 32 that count.
+fn widened(random: &mut Random, record: &mut Record) -> Vec<(usize, u64)> {
+    let mut wide = Vec::new();
+    if random.once_in(300) {
+        wide.push((
+            0,
+            u64::from(record.opcode) + 256 * random.within(1, 9) as u64,
+        ));
+        record.opcode = 0;
     }
+    if random.once_in(200) {
+        let place = random.below(4) as usize;
+        let negative = random.pick(&[-1i64, -4, -1024, i64::from(i32::MIN)]) as u64;
+        let above = random.pick(&[1 << 16, 0x7fff_ffff, (1 << 32) + 5, 1 << 63]);
+        wide.push((1 + place, random.pick(&[negative, above])));
+        record.scissor[place] = u16::MAX;
+    }
+    if random.once_in(4) {
+        let mode = u64::from(record.render_mode) + (random.next() << 32);
+        wide.push((5, mode));
+    }
+    wide
 }
 
 /// A buffer between guard words, all filled with one mark.
@@ -247,6 +280,9 @@ fn compare(case: &Case, buffers: &mut Buffers, tally: &mut Tally) -> Option<Stri
     tally.records += 1;
     tally.short_objects += u64::from(case.object.len() < OBJECT_BYTES);
     let mut random = Random(case.draw);
+    if let Some(text) = count_difference(case, &whole.end, random.next(), buffers) {
+        return Some(text);
+    }
     for room in rooms(whole.end.entries, &mut random) {
         let mut expected = None;
         if room < 11 * whole.end.entries as usize {
@@ -269,10 +305,33 @@ fn run_proved(case: &Case, room: usize, mark: u64, buffers: &mut Buffers) -> u64
     let bank = buffers.bank.fill(BANK_WORDS, mark);
     for (words, tile) in bank.chunks_mut(17).zip(&initial_bank(case.bank_seed)) {
         words.copy_from_slice(&tile_fields(tile));
+        if case.wide_bank {
+            for (place, word) in words.iter_mut().enumerate() {
+                *word += mark << if (6..15).contains(&place) { 8 } else { 16 };
+            }
+        }
     }
     let plan = buffers.plan.fill(room, mark);
     let end = buffers.end.fill(END_WORDS, mark);
-    proved::run(&case.object, &case.request(), bank, plan, end)
+    proved::run(&case.object, &case.request, bank, plan, end)
+}
+
+fn numbers(end: &End) -> [u64; END_WORDS] {
+    [end.verdict, end.entries, end.rectangles, end.tile_words]
+}
+
+/// The end that is counted without a buffer, held against the whole plan's.
+fn count_difference(case: &Case, end: &End, mark: u64, buffers: &mut Buffers) -> Option<String> {
+    let words = buffers.end.fill(END_WORDS, mark);
+    let status = proved::count(&case.object, &case.request, words);
+    let given = buffers.end.inside();
+    if status == 0 && given == numbers(end) && buffers.end.untouched_but(END_WORDS) {
+        return None;
+    }
+    let expected = numbers(end);
+    Some(format!(
+        "counted: Rust {expected:?}, proved {given:?}, returned {status}\n"
+    ))
 }
 
 /// What the proved run left, held against what it should have left. `entries` are those of the
@@ -284,17 +343,15 @@ fn difference(
     buffers: &Buffers,
 ) -> Option<String> {
     let mut text = String::new();
-    let end = expected.end;
-    let numbers = [end.verdict, end.entries, end.rectangles, end.tile_words];
-    if status != 0 || buffers.end.inside() != numbers {
-        let given = buffers.end.inside();
+    let (end, given) = (numbers(&expected.end), buffers.end.inside());
+    if status != 0 || given != end {
         writeln!(
             text,
-            "end: Rust {numbers:?}, proved {given:?}, returned {status}"
+            "end: Rust {end:?}, proved {given:?}, returned {status}"
         )
         .unwrap();
     }
-    let count = end.entries as usize;
+    let count = expected.end.entries as usize;
     let mut words = buffers.plan.inside().chunks_exact(11);
     for (n, entry) in entries[..count].iter().enumerate() {
         let given = words.next().unwrap_or(&[]);
@@ -349,9 +406,15 @@ fn refused_lengths() -> Option<String> {
         let kept = [&buffers.bank, &buffers.plan, &buffers.end]
             .iter()
             .all(|b| b.untouched_but(0));
-        if status != 1 || !kept {
+        let counted = if request != REQUEST_WORDS || end != END_WORDS {
+            proved::count(&[0; OBJECT_BYTES], &words, buffers.end.fill(end, 77))
+        } else {
+            1
+        };
+        let kept = kept && buffers.end.untouched_but(0);
+        if status != 1 || counted != 1 || !kept {
             return Some(format!(
-                "request {request}, bank {bank}, end {end} words: returned {status}, {}\n",
+                "request {request}, bank {bank}, end {end} words: returned {status} and {counted}, {}\n",
                 if kept {
                     "nothing written"
                 } else {
@@ -383,8 +446,8 @@ fn without(case: &Case, at: usize) -> Option<Case> {
     if at < simpler.object.len().min(OBJECT_BYTES) {
         simpler.object[at] = 0;
     }
-    if (40..48).contains(&at) {
-        simpler.edges = simpler.record.scissor.map(i32::from);
+    if at >= OBJECT_BYTES {
+        simpler.request = request(&simpler.record);
     }
     Some(simpler)
 }
@@ -401,6 +464,7 @@ fn reduced(case: &Case) -> Case {
     }
     let clear = Case {
         bank_seed: None,
+        wide_bank: false,
         ..least.clone()
     };
     if differs(&clear) {
@@ -423,13 +487,13 @@ fn describe(case: &Case, text: &str) -> String {
     let Case {
         record,
         object,
-        edges,
+        request,
         bank_seed,
         ..
     } = case;
     let bank = bank_seed.map_or("zeros".to_string(), |seed| format!("seed {seed}"));
     format!(
-        "record {}\nobject of {} bytes {}, scissor {edges:?}, bank from {bank}\n{text}",
+        "record {}\nobject of {} bytes {}, request {request:?}, bank from {bank}\n{text}",
         hex(&record.to_bytes()),
         object.len(),
         hex(object)
@@ -491,6 +555,19 @@ fn compare_all(records: u64, seed: u64, threads: usize) -> (Tally, Option<(u64, 
     shared.into_inner().unwrap()
 }
 
+/// Document 01's cases, the edge records and the longest plan; the first difference.
+fn compare_fixed(tally: &mut Tally) -> Option<String> {
+    let named = cases::all().into_iter();
+    let named = named.map(|case| Case::fixed(case.record, case.object_bytes));
+    let others = edges::all().into_iter().chain([edges::largest()]);
+    let others = others.map(|record| Case::fixed(record, OBJECT_BYTES));
+    let mut buffers = Buffers::new();
+    named.chain(others).find_map(|case| {
+        let text = compare(&case, &mut buffers, tally)?;
+        Some(describe(&case, &text))
+    })
+}
+
 fn single(arguments: &[String]) -> Option<String> {
     let digits = arguments.first().map_or("", |a| a.as_str());
     let bytes: Vec<u8> = (0..digits.len() / 2)
@@ -499,16 +576,12 @@ fn single(arguments: &[String]) -> Option<String> {
     let Ok(bytes) = <[u8; RECORD_BYTES]>::try_from(bytes) else {
         usage();
     };
-    let record = Record::from_bytes(&bytes);
     let length = arguments
         .get(1)
         .map_or(OBJECT_BYTES, |n| number(n) as usize);
     let case = Case {
-        record,
-        object: record.object[..length.min(OBJECT_BYTES)].to_vec(),
-        edges: record.scissor.map(i32::from),
         bank_seed: arguments.get(2).map(|n| number(n)),
-        draw: 0,
+        ..Case::fixed(Record::from_bytes(&bytes), length.min(OBJECT_BYTES))
     };
     let text = compare(&case, &mut Buffers::new(), &mut Tally::default());
     text.map(|text| describe(&case, &text))
@@ -549,6 +622,14 @@ fn main() {
     let names: Vec<&str> = MODES.iter().map(|(name, _)| *name).collect();
     println!("seed {seed}, modes {}, {threads} threads", names.join(" "));
     let start = Instant::now();
+    let mut fixed = Tally::default();
+    if let Some(text) = compare_fixed(&mut fixed) {
+        finish(Some(text));
+    }
+    println!(
+        "{} fixed records, {} runs, {} entries",
+        fixed.records, fixed.runs, fixed.entries
+    );
     let (tally, found) = compare_all(records, seed, threads);
     tally.print();
     if let Some((n, text)) = found {

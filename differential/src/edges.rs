@@ -144,3 +144,11 @@ fn scaled_ones() -> Vec<Record> {
 pub fn all() -> Vec<Record> {
     copies().into_iter().chain(scaled_ones()).collect()
 }
+
+/// The longest plan there is, 5,232,646 entries: an image of one cell under 1,023 by 1,023 cells.
+pub fn largest() -> Record {
+    copy(4, 4, 4, |o, r| {
+        (o.frame_w, o.frame_h) = (4092, 4092);
+        r.scissor = [0, 0, 1023, 1023];
+    })
+}

@@ -189,7 +189,7 @@ fn main() {
             Err(error) => fail(&directory, &error.to_string()),
         },
         Task::Replayed(directory) => match replay::holds(&directory) {
-            Ok(true) => {}
+            Ok(true) => out.put("the replayed answers are the Rust's\n"),
             Ok(false) => fail(&directory, "stdout is not what the Rust answers"),
             Err(error) => fail(&directory, &error.to_string()),
         },

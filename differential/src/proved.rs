@@ -1,4 +1,4 @@
-//! The proved planner, through the C interface of its static library (host/include/visorlongan.h).
+//! The proved planner, through the C interface of its static library (include/visorlongan.h).
 
 pub const REQUEST_WORDS: usize = 7;
 pub const BANK_WORDS: usize = 136;
@@ -14,6 +14,14 @@ extern "C" {
         bank_len: usize,
         plan: *mut u64,
         plan_len: usize,
+        end: *mut u64,
+        end_len: usize,
+    ) -> u64;
+    fn bg_count(
+        object: *const u8,
+        object_len: usize,
+        request: *const u64,
+        request_len: usize,
         end: *mut u64,
         end_len: usize,
     ) -> u64;
@@ -38,6 +46,22 @@ pub fn run(
             bank.len(),
             plan.as_mut_ptr(),
             plan.len(),
+            end.as_mut_ptr(),
+            end.len(),
+        )
+    }
+}
+
+/// The end of the whole plan, without a buffer: 0, or 1 where request or end has the wrong number
+/// of words.
+pub fn count(object: &[u8], request: &[u64], end: &mut [u64]) -> u64 {
+    // As above.
+    unsafe {
+        bg_count(
+            object.as_ptr(),
+            object.len(),
+            request.as_ptr(),
+            request.len(),
             end.as_mut_ptr(),
             end.len(),
         )

@@ -1,4 +1,4 @@
-//! The C interface of the proved library (include/visorlongan.h), with its lengths fixed.
+//! The C interface of the proved library (../include/visorlongan.h), with its lengths fixed.
 
 pub const REQUEST_WORDS: usize = 7;
 pub const BANK_WORDS: usize = 136;
@@ -14,6 +14,14 @@ extern "C" {
         bank_len: usize,
         plan: *mut u64,
         plan_len: usize,
+        end: *mut u64,
+        end_len: usize,
+    ) -> u64;
+    fn bg_count(
+        object: *const u8,
+        object_len: usize,
+        request: *const u64,
+        request_len: usize,
         end: *mut u64,
         end_len: usize,
     ) -> u64;
@@ -46,6 +54,21 @@ fn call(
     }
 }
 
+/// The end of the whole plan, without a buffer; likewise.
+fn call_count(object: &[u8], request: &[u64], end: &mut [u64]) -> u64 {
+    // SAFETY: as for `call`.
+    unsafe {
+        bg_count(
+            object.as_ptr(),
+            object.len(),
+            request.as_ptr(),
+            request.len(),
+            end.as_mut_ptr(),
+            end.len(),
+        )
+    }
+}
+
 pub fn run(
     object: &[u8],
     request: &[u64; REQUEST_WORDS],
@@ -54,6 +77,13 @@ pub fn run(
 ) -> [u64; END_WORDS] {
     let mut end = [0; END_WORDS];
     let status = call(object, request, bank, plan, &mut end);
+    assert_eq!(status, 0, "the library refused lengths that it defines");
+    end
+}
+
+pub fn count(object: &[u8], request: &[u64; REQUEST_WORDS]) -> [u64; END_WORDS] {
+    let mut end = [0; END_WORDS];
+    let status = call_count(object, request, &mut end);
     assert_eq!(status, 0, "the library refused lengths that it defines");
     end
 }
@@ -78,6 +108,11 @@ mod tests {
             let status = call(&[0; 40], &request, &mut bank, &mut plan, &mut end);
             assert_eq!(status, 1);
             assert!([bank, end, plan].concat().iter().all(|word| *word == 77));
+        }
+        for (request, end) in [(6, 4), (8, 4), (7, 3), (7, 5), (0, 0)] {
+            let (request, mut end) = (vec![10; request], vec![77; end]);
+            assert_eq!(call_count(&[0; 40], &request, &mut end), 1);
+            assert!(end.iter().all(|word| *word == 77));
         }
     }
 }

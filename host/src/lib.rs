@@ -46,6 +46,6 @@ mod verdict;
 
 pub use bank::{Bank, Tile};
 pub use entry::{Entry, ENTRY_WORDS};
-pub use plan::{run, Buffer, Entries, Plan};
+pub use plan::{count, run, Buffer, Entries, Plan};
 pub use request::{Request, Scissor, BG_1CYC, BG_COPY};
 pub use verdict::{End, Verdict};

@@ -19,6 +19,12 @@ pub fn run(request: &Request, bank: &mut Bank, plan: &mut [u64]) -> End {
     End::from_words(end)
 }
 
+/// The end of a request's whole plan, without memory for its entries: [`run`] gives the same with
+/// [`ENTRY_WORDS`] words for each of them.
+pub fn count(request: &Request) -> End {
+    End::from_words(ffi::count(request.object, &request.words()))
+}
+
 /// A plan: the entries in order, and the end.
 #[derive(Clone, Copy, Debug)]
 pub struct Plan<'a> {
@@ -61,6 +67,9 @@ impl Iterator for Entries<'_> {
 
 impl ExactSizeIterator for Entries<'_> {}
 
+/// Entries that a buffer has room for from its first plan on: more than most plans have.
+const FIRST: usize = 512;
+
 /// Memory for plans, to be used again from command to command.
 #[derive(Clone, Debug, Default)]
 pub struct Buffer {
@@ -73,12 +82,16 @@ impl Buffer {
     }
 
     /// Plans a request, with as much memory as its plan takes: 88 bytes an entry. Most plans have
-    /// a few hundred entries; the largest there is has 5,232,646.
+    /// a few hundred entries; the largest there is has 5,232,646. Memory grows where a plan needs
+    /// more than those before it, and then the plan is walked three times.
     pub fn plan(&mut self, request: &Request, bank: &mut Bank) -> Plan<'_> {
         let before = *bank;
+        if self.words.is_empty() {
+            self.words.resize(FIRST * ENTRY_WORDS, 0);
+        }
         let mut end = run(request, bank, &mut self.words);
-        while end.verdict == Verdict::Full {
-            let entries = (2 * end.entries as usize).max(512);
+        if end.verdict == Verdict::Full {
+            let entries = count(request).entries as usize;
             self.words.resize(entries * ENTRY_WORDS, 0);
             *bank = before;
             end = run(request, bank, &mut self.words);

@@ -4,7 +4,7 @@
 //! after the plan from the tiles of initial-bank.txt; list.txt says how many of the object's bytes
 //! each case gets.
 
-use visorlongan::{run, Bank, Buffer, Request, Scissor, Verdict, ENTRY_WORDS};
+use visorlongan::{count, run, Bank, Buffer, Request, Scissor, Verdict, ENTRY_WORDS};
 
 fn folder() -> String {
     format!("{}/tests/cases", env!("CARGO_MANIFEST_DIR"))
@@ -73,6 +73,7 @@ fn plans_are_the_rusts() {
             "case {name}"
         );
         assert_eq!(plan.entries().len() as u64, plan.end.entries);
+        assert_eq!(count(&request(bytes, *object_bytes)), plan.end);
     }
 }
 

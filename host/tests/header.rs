@@ -19,6 +19,8 @@ int main(void) {
     uint64_t status = bg_run(object, 40, request, BG_REQUEST_WORDS, bank, BG_BANK_WORDS,
                              plan, 6 * BG_ENTRY_WORDS, end, BG_END_WORDS);
     printf("%d %d %d %d %d\n", (int)status, (int)end[0], (int)end[1], (int)end[2], (int)end[3]);
+    status = bg_count(object, 40, request, BG_REQUEST_WORDS, end, BG_END_WORDS);
+    printf("%d %d %d %d %d\n", (int)status, (int)end[0], (int)end[1], (int)end[2], (int)end[3]);
     return 0;
 }
 "#;
@@ -34,11 +36,14 @@ fn the_header_compiles_and_links() {
     std::fs::write(&source, PROGRAM).expect("a file");
     let compiled = Command::new("cc")
         .args(["-std=c99", "-Wall", "-Wextra", "-Werror", "-I"])
-        .arg(concat!(env!("CARGO_MANIFEST_DIR"), "/include"))
+        .arg(concat!(env!("CARGO_MANIFEST_DIR"), "/../include"))
         .args(["-o", &program, &source, env!("LIBRARY")])
         .status()
         .expect("cc");
     assert!(compiled.success());
     let output = Command::new(&program).output().expect("the program");
-    assert_eq!(String::from_utf8_lossy(&output.stdout), "0 0 6 1 8\n");
+    assert_eq!(
+        String::from_utf8_lossy(&output.stdout),
+        "0 0 6 1 8\n0 0 6 1 8\n"
+    );
 }

@@ -45,7 +45,7 @@ fn stop(n: Counts, bank: Bank, verdict: Verdict) -> Stepped
     }
 }
 
-fn course_of(r: Reached) -> Course
+pub fn course_of(r: Reached) -> Course
     ensures { λ c. ⌜ c ≡ courseOf r ⌝ }
 {
     match r {

@@ -8,7 +8,6 @@ ghost use Rattle.plan.specs.Scaled.{scaledEmpty};
 ghost use Rattle.scaled.specs.Range.{ClipIs};
 ghost use Rattle.scaled.specs.Clip.{greatest, removed, kept, lower, moved, nearCut, farCut, AxisIs, Across, Down};
 use crate::measure::edge_of;
-use crate::measure::extent_of;
 use object::ObjBg;
 use object::Scissor;
 use plan::Clip;
@@ -115,8 +114,8 @@ fn across(bg: ObjBg, flip: bool, scissor: Scissor) -> Axis
     requires { ⌜ PassedScaled bg scissor ⌝ }
     ensures { λ r. ⌜ Across bg flip scissor r ⌝ }
 {
-    let frame_w = extent_of(bg.frame_w);
-    let removed_w = removed_of(frame_w, extent_of(bg.image_w), bg.scale_w.0);
+    let frame_w = object::quarters(bg.frame_w);
+    let removed_w = removed_of(frame_w, object::quarters(bg.image_w), bg.scale_w.0);
     let x = x_of(bg.frame_x.0, flip, removed_w);
     let width = width_of(frame_w, removed_w);
     cut_axis(x, width, edge_of(scissor.ulx), edge_of(scissor.lrx))
@@ -126,7 +125,11 @@ fn down(bg: ObjBg, scissor: Scissor) -> Axis
     requires { ⌜ PassedScaled bg scissor ⌝ }
     ensures { λ r. ⌜ Down bg scissor r ⌝ }
 {
-    let height = height_of(extent_of(bg.frame_h), extent_of(bg.image_h), bg.scale_h.0);
+    let height = height_of(
+        object::quarters(bg.frame_h),
+        object::quarters(bg.image_h),
+        bg.scale_h.0,
+    );
     cut_axis(
         bg.frame_y.0,
         height,

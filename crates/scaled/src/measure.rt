@@ -3,24 +3,8 @@ ghost use mathlib.Core.Bool.{cond};
 ghost use mathlib.Core.Path.{_≡_};
 ghost use Prim.Native.Nat.{_*_, _≤_};
 ghost use Rattle.signed.specs.Diff.{up};
-ghost use Rattle.object.specs.Measure.{quarters, thirtySeconds, sampledBy};
-use object::Quarters;
+ghost use Rattle.object.specs.Measure.{sampledBy};
 use object::Scale;
-use object::ThirtySeconds;
-
-// A width or a height, which is never negative.
-pub(crate) fn extent_of(q: Quarters) -> u64
-    ensures { λ r. ⌜ r ≡ quarters q ⌝ }
-{
-    signed::positive(q.0)
-}
-
-// A position in the image, which is never negative.
-pub(crate) fn position_of(t: ThirtySeconds) -> u64
-    ensures { λ r. ⌜ r ≡ thirtySeconds t ⌝ }
-{
-    signed::positive(t.0)
-}
 
 // An edge of the scissor, which is never negative.
 pub(crate) fn edge_of(z: i32) -> u64

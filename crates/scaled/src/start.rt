@@ -7,8 +7,6 @@ ghost use Rattle.object.specs.Measure.{thirtySeconds, sampledBy};
 ghost use Rattle.scaled.specs.Range.{Usable, Filled, StartIs};
 ghost use Rattle.scaled.specs.Strip.{originOf};
 use crate::measure::chosen;
-use crate::measure::extent_of;
-use crate::measure::position_of;
 use crate::measure::sampled_by;
 use object::ObjBg;
 use object::Scale;
@@ -22,7 +20,7 @@ fn position_after(first: ThirtySeconds, cut: u64, scale: Scale) -> u64
     ensures { λ r. ⌜ r ≡ thirtySeconds first + sampledBy cut (scale .0) ⌝ }
     ensures { λ r. ⌜ r ≤ 2 ^ 26 ⌝ }
 {
-    position_of(first) + sampled_by(cut, scale)
+    object::thirty_seconds(first) + sampled_by(cut, scale)
 }
 
 // The origin moves down with the rows that the column carried, and back with the images that the row wrapped.
@@ -40,8 +38,8 @@ pub fn start_of(bg: ObjBg, c: Clip) -> Start
     requires { ⌜ Filled c ⌝ }
     ensures { λ r. ⌜ StartIs bg c r ⌝ }
 {
-    let source_w = extent_of(bg.image_w) * 8;
-    let source_h = extent_of(bg.image_h) * 8;
+    let source_w = object::quarters(bg.image_w) * 8;
+    let source_h = object::quarters(bg.image_h) * 8;
     let x = position_after(bg.image_x, chosen(c.flip, c.right, c.left), bg.scale_w);
     let carry = x / source_w;
     let y = position_after(bg.image_y, c.top, bg.scale_h) + carry * 32;

@@ -5,7 +5,6 @@ ghost use Rattle.object.specs.Measure.{quarters, inImage};
 ghost use Rattle.plan.specs.Scaled.{slicesBad};
 ghost use Rattle.scaled.specs.Range.{Usable, Filled, ScaledIs};
 ghost use Rattle.scaled.specs.Strip.{shiftOf, maxSlice, lineOf, splitOf, sOf, RowsAre, ColumnsAre};
-use crate::measure::extent_of;
 use crate::measure::sampled_by;
 use object::ObjBg;
 use plan::Clip;
@@ -74,8 +73,8 @@ fn line_of(bg: ObjBg, bilerp: u64) -> u64
     ensures { λ r. ⌜ r ≡ lineOf bg bilerp ⌝ }
     ensures { λ r. ⌜ 1 ≤ r ⌝ }
 {
-    let source_w = extent_of(bg.image_w) * 8;
-    let sampled = sampled_by(extent_of(bg.frame_w), bg.scale_w);
+    let source_w = object::quarters(bg.image_w) * 8;
+    let sampled = sampled_by(object::quarters(bg.frame_w), bg.scale_w);
     let shift = shift_of(bg.image_siz);
     let max_slice = max_slice_of(bg.image_siz, sampled, bilerp, source_w);
     (max_slice + (shift - 1)) / shift + 1
@@ -125,7 +124,7 @@ fn rows_of(bg: ObjBg, bilerp: u64) -> Rows
     let capacity = capacity::scaled_capacity(bg.image_fmt, bg.image_siz);
     let image_rows = signed::minus(capacity / line, bilerp);
     let frame_rows = frame_rows_of(image_rows, bg.scale_h.0);
-    let source_rows = (extent_of(bg.image_h) * 8) >> 5;
+    let source_rows = (object::quarters(bg.image_h) * 8) >> 5;
     Rows {
         line,
         image_rows,
@@ -141,7 +140,7 @@ fn columns_of(bg: ObjBg, bilerp: u64, c: Clip, i: Start) -> Columns
     requires { ⌜ i .«image_x» < inImage (quarters (bg .«image_w»)) ⌝ }
     ensures { λ r. ⌜ ColumnsAre bg bilerp c i r ⌝ }
 {
-    let source_w = extent_of(bg.image_w) * 8;
+    let source_w = object::quarters(bg.image_w) * 8;
     let image_x = i.image_x;
     let image_width = sampled_by(c.width, bg.scale_w);
     let slice_width = image_width + bilerp * 32;

@@ -1,6 +1,6 @@
 // The tile bank: two setters by value, and over each a thin one that is lent the bank.
 ghost use mathlib.Core.Path.{_≡_};
-ghost use Rattle.tile.specs.Bank.{setTile, setSize, extent};
+ghost use Rattle.tile.specs.Bank.{replaced as replacedBy, resized as resizedTo, setTile, setSize, extent};
 
 // `TileDescriptor` of the Rust, in its order.
 pub struct Tile {
@@ -27,16 +27,11 @@ pub struct Bank {
     pub tiles: [Tile; 8],
 }
 
-// Sets a tile and keeps its bounds, width and height; there is no tile from 8 on, and nothing is set.
-pub fn with_tile(bank: Bank, index: usize, tile: Tile) -> Bank
-    ensures { λ r. ⌜ r ≡ setTile bank index tile ⌝ }
+// A tile set anew: its bounds, width and height stay.
+pub fn replaced(old: Tile, tile: Tile) -> Tile
+    ensures { λ r. ⌜ r ≡ replacedBy old tile ⌝ }
 {
-    if 8 <= index {
-        return bank;
-    }
-    let old = bank.tiles[index];
-    let mut next = bank;
-    next.tiles[index] = Tile {
+    Tile {
         uls: old.uls,
         ult: old.ult,
         lrs: old.lrs,
@@ -54,7 +49,18 @@ pub fn with_tile(bank: Bank, index: usize, tile: Tile) -> Bank
         shiftt: tile.shiftt,
         line: tile.line,
         tmem_addr: tile.tmem_addr,
-    };
+    }
+}
+
+// Sets a tile; there is none from 8 on, and nothing is set.
+pub fn with_tile(bank: Bank, index: usize, tile: Tile) -> Bank
+    ensures { λ r. ⌜ r ≡ setTile bank index tile ⌝ }
+{
+    if 8 <= index {
+        return bank;
+    }
+    let mut next = bank;
+    next.tiles[index] = replaced(bank.tiles[index], tile);
     next
 }
 
@@ -65,22 +71,29 @@ fn texels(low: u16, high: u16) -> u16
     if low < high { (high - low) / 4 + 1 } else { 1 }
 }
 
-// Sets a tile's bounds, and the width and height that follow; nothing where there is no such tile.
-pub fn with_tile_size(bank: Bank, index: usize, uls: u16, ult: u16, lrs: u16, lrt: u16) -> Bank
-    ensures { λ r. ⌜ r ≡ setSize bank index uls ult lrs lrt ⌝ }
+// A tile with other bounds, and the width and height that follow.
+pub fn resized(old: Tile, uls: u16, ult: u16, lrs: u16, lrt: u16) -> Tile
+    ensures { λ r. ⌜ r ≡ resizedTo old uls ult lrs lrt ⌝ }
 {
-    if 8 <= index {
-        return bank;
-    }
-    let mut tile = bank.tiles[index];
+    let mut tile = old;
     tile.uls = uls;
     tile.ult = ult;
     tile.lrs = lrs;
     tile.lrt = lrt;
     tile.width = texels(uls, lrs);
     tile.height = texels(ult, lrt);
+    tile
+}
+
+// Sets a tile's bounds; nothing where there is no such tile.
+pub fn with_tile_size(bank: Bank, index: usize, uls: u16, ult: u16, lrs: u16, lrt: u16) -> Bank
+    ensures { λ r. ⌜ r ≡ setSize bank index uls ult lrs lrt ⌝ }
+{
+    if 8 <= index {
+        return bank;
+    }
     let mut next = bank;
-    next.tiles[index] = tile;
+    next.tiles[index] = resized(bank.tiles[index], uls, ult, lrs, lrt);
     next
 }
 

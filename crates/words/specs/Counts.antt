@@ -13,6 +13,7 @@ use Rattle.plan.specs.declared.types.Entry.the-variants as entry
 use Rattle.plan.specs.declared.types.End.{End}
 use Rattle.plan.specs.Out.{Plan}
 use Rattle.plan.specs.Run.{rectangles, wordsFrom, endOf}
+use Rattle.plan.specs.Sound.{entryLine}
 use Rattle.words.specs.declared.count.Counts.{Counts}
 
 abbrev pub zeroCounts : Counts
@@ -34,22 +35,6 @@ countedAll n (e ∷ es) = countedAll (countedOf n e) es
 abbrev pub endWith : Counts → Verdict → End
 endWith n v = record { verdict = v; entries = n .entries; rectangles = n .rectangles; words = n .words }
 
--- the rows that an entry loads
-abbrev pub loadRows : Entry → ℕ
-loadRows (entry.Image fmt siz width address) = 0
-loadRows (entry.Tile i fmt siz line tmem palette cms cmt masks maskt) = 0
-loadRows (entry.Size i uls ult lrs lrt) = 0
-loadRows (entry.Load i uls ult lrs lrt words rows stride start len) = rows
-loadRows (entry.Rect i ulx uly lrx lry uls ult dsdx dtdy row) = 0
-
--- the line that an entry sets
-abbrev pub lineSet : Entry → ℕ
-lineSet (entry.Image fmt siz width address) = 0
-lineSet (entry.Tile i fmt siz line tmem palette cms cmt masks maskt) = line
-lineSet (entry.Size i uls ult lrs lrt) = 0
-lineSet (entry.Load i uls ult lrs lrt words rows stride start len) = 0
-lineSet (entry.Rect i ulx uly lrx lry uls ult dsdx dtdy row) = 0
-
 -- counts that no sum or product takes past 2^64 at the next entry
 pub record Countable (n : Counts) : Type 0 where
   pub entries : n .entries < 2 ^ 62
@@ -61,7 +46,7 @@ line-kept true line old h k = h
 line-kept false line old h k = k
 
 -- the next counts are such again while the entries are few enough
-pub counted-countable : (n : Counts) (e : Entry) → Countable n → n .entries + 1 < 2 ^ 62 → lineSet e ≤ 65535 → Countable (countedOf n e)
+pub counted-countable : (n : Counts) (e : Entry) → Countable n → n .entries + 1 < 2 ^ 62 → entryLine e ≤ 65535 → Countable (countedOf n e)
 unfolding countedOf
 counted-countable n (entry.Image fmt siz width address) h m l = record { entries = m; rectangles = omega arith; line = h .line }
 counted-countable n (entry.Tile i fmt siz line tmem palette cms cmt masks maskt) h m l = record { entries = m; rectangles = omega arith; line = line-kept (eqb i 7) line (n .line) l (h .line) }

@@ -2,3 +2,4 @@
 pub mod Counts
 pub mod Eleven
 pub mod Host
+pub mod Tiles

@@ -1,7 +1,8 @@
 // The numbers that a plan's end gives, kept as its entries are given.
 ghost use mathlib.Core.Path.{_≡_};
 ghost use Prim.Native.Nat.{_≤_};
-ghost use Rattle.words.specs.Counts.{Countable, loadRows, countedOf, endWith};
+ghost use Rattle.plan.specs.Sound.{entryRows};
+ghost use Rattle.words.specs.Counts.{Countable, countedOf, endWith};
 use object::Verdict;
 use plan::End;
 use plan::Entry;
@@ -18,7 +19,7 @@ pub struct Counts {
 // One entry more.
 pub fn counted(n: Counts, e: Entry) -> Counts
     requires { ⌜ Countable n ⌝ }
-    requires { ⌜ loadRows e ≤ 16384 ⌝ }
+    requires { ⌜ entryRows e ≤ 16384 ⌝ }
     ensures { λ r. ⌜ r ≡ countedOf n e ⌝ }
 {
     let mut next = n;

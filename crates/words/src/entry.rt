@@ -2,13 +2,14 @@
 ghost use mathlib.Core.Path.{_≡_};
 ghost use Rattle.signed.specs.Cast.{word};
 ghost use Rattle.plan.specs.Run.{descriptor, bankStep, entryWords};
+ghost use Rattle.words.specs.Tiles.{changedBy, tileStep};
 use plan::Entry;
 use signed::wide;
 use signed::word_of;
 use tile::Bank;
 use tile::Tile;
-use tile::with_tile;
-use tile::with_tile_size;
+use tile::replaced;
+use tile::resized;
 
 // Signed numbers are words modulo 2^64.
 fn signed_word(x: i16) -> u64
@@ -169,13 +170,25 @@ fn described(
     }
 }
 
-// The bank once an entry is given; a load sets its tile's size itself.
-pub fn bank_after(bank: Bank, e: Entry) -> Bank
-    ensures { λ r. ⌜ r ≡ bankStep bank e ⌝ }
+// The tile that an entry changes; 8 for none.
+pub fn changed(e: Entry) -> usize
+    ensures { λ r. ⌜ r ≡ changedBy e ⌝ }
+{
+    match e {
+        Entry::Tile { index, .. } => index as usize,
+        Entry::Size { index, .. } => index as usize,
+        Entry::Load { index, .. } => index as usize,
+        Entry::Image { .. } => 8,
+        Entry::Rect { .. } => 8,
+    }
+}
+
+// That tile once the entry is given; a load sets its tile's size itself.
+pub fn tile_after(old: Tile, e: Entry) -> Tile
+    ensures { λ r. ⌜ r ≡ tileStep old e ⌝ }
 {
     match e {
         Entry::Tile {
-            index,
             fmt,
             siz,
             line,
@@ -185,26 +198,39 @@ pub fn bank_after(bank: Bank, e: Entry) -> Bank
             cmt,
             masks,
             maskt,
+            ..
         } => {
             let tile = described(fmt, siz, line, tmem, palette, cms, cmt, masks, maskt);
-            with_tile(bank, index as usize, tile)
+            replaced(old, tile)
         }
         Entry::Size {
-            index,
-            uls,
-            ult,
-            lrs,
-            lrt,
-        } => with_tile_size(bank, index as usize, uls, ult, lrs, lrt),
-        Entry::Load {
-            index,
             uls,
             ult,
             lrs,
             lrt,
             ..
-        } => with_tile_size(bank, index as usize, uls, ult, lrs, lrt), // no entry of its own
-        Entry::Image { .. } => bank,
-        Entry::Rect { .. } => bank,
+        } => resized(old, uls, ult, lrs, lrt),
+        Entry::Load {
+            uls,
+            ult,
+            lrs,
+            lrt,
+            ..
+        } => resized(old, uls, ult, lrs, lrt), // no entry of its own
+        Entry::Image { .. } => old,
+        Entry::Rect { .. } => old,
     }
+}
+
+// The bank once an entry is given.
+pub fn bank_after(bank: Bank, e: Entry) -> Bank
+    ensures { λ r. ⌜ r ≡ bankStep bank e ⌝ }
+{
+    let i = changed(e);
+    if 8 <= i {
+        return bank;
+    }
+    let mut next = bank;
+    next.tiles[i] = tile_after(bank.tiles[i], e);
+    next
 }

@@ -11,17 +11,17 @@ use Rattle.scaled.specs.Range.{reads-edge, reads15, edge-le}
 use Rattle.scaled.proofs.clip.across.Statement.{statement}
 use Rattle.scaled.proofs.clip.across.Tie as tie
 
-extent-of-requires : tie.Need-extent-of-requires
-extent-of-requires c κs = search needs
+quarters-requires : tie.Need-quarters-requires
+quarters-requires c κs = search needs
 
-extent-of-requires-2 : tie.Need-extent-of-requires-2
-extent-of-requires-2 c κs = search needs
+quarters-requires-2 : tie.Need-quarters-requires-2
+quarters-requires-2 c κs = search needs
 
 removed-of-requires : tie.Need-removed-of-requires
 removed-of-requires c κs = omega zarith
 
 loss-is : (c : tie.After-removed-of) → c .removed-of .result ≡ lossOf (c .before .before .before .args .bg)
-loss-is c = rw (c .before .before .extent-of .ensures, c .before .extent-of2 .ensures) at (c .removed-of .ensures .0)
+loss-is c = rw (c .before .before .quarters .ensures, c .before .quarters2 .ensures) at (c .removed-of .ensures .0)
 
 x-of-requires : tie.Need-x-of-requires
 x-of-requires c κs = rw (reads15 (c .before .before .before .before .pre .passed .range .frame-x)) (omega zarith)
@@ -39,7 +39,7 @@ x-is : (c : tie.After-x-of) → toZ w64 (ofZ w64 (c .x-of .result)) ≡ moved (c
 x-is c = rk _ (c .x-of .ok) ∙ rw (reads15 (c .before .before .before .before .before .pre .passed .range .frame-x), loss-is (c .before .before)) at (c .x-of .ensures .0)
 
 width-is : (c : tie.After-width-of) → toZ w64 (ofZ w64 (c .width-of .result)) ≡ kept (quarters (c .before .before .before .before .before .before .args .bg .«frame_w»)) (lossOf (c .before .before .before .before .before .before .args .bg))
-width-is c = rk _ (c .width-of .ok) ∙ rw (c .before .before .before .before .before .extent-of .ensures, loss-is (c .before .before .before)) at (c .width-of .ensures .0)
+width-is c = rk _ (c .width-of .ok) ∙ rw (c .before .before .before .before .before .quarters .ensures, loss-is (c .before .before .before)) at (c .width-of .ensures .0)
 
 cut-axis-requires : tie.Need-cut-axis-requires
 cut-axis-requires c κs =
@@ -56,8 +56,8 @@ pub across-spec : {M : Type 1} → statement M
 across-spec =
     tie.close
     (tie.spec
-    extent-of-requires
-    extent-of-requires-2
+    quarters-requires
+    quarters-requires-2
     removed-of-requires
     x-of-requires
     width-of-requires

@@ -7,11 +7,11 @@ use Rattle.scaled.specs.Range.{reads-edge, reads15, edge-le}
 use Rattle.scaled.proofs.clip.down.Statement.{statement}
 use Rattle.scaled.proofs.clip.down.Tie as tie
 
-extent-of-requires : tie.Need-extent-of-requires
-extent-of-requires c κs = search needs
+quarters-requires : tie.Need-quarters-requires
+quarters-requires c κs = search needs
 
-extent-of-requires-2 : tie.Need-extent-of-requires-2
-extent-of-requires-2 c κs = search needs
+quarters-requires-2 : tie.Need-quarters-requires-2
+quarters-requires-2 c κs = search needs
 
 height-of-requires : tie.Need-height-of-requires
 height-of-requires c κs = omega zarith
@@ -31,15 +31,15 @@ cut-axis-requires c κs =
 returns : tie.Need-returns
 returns c =
     let p = c .before .before .before .before .before .before .before .before .before .pre .passed in
-    let h = rk _ (c .before .before .before .before .before .before .height-of .ok) ∙ rw (c .before .before .before .before .before .before .before .before .extent-of .ensures, c .before .before .before .before .before .before .before .extent-of2 .ensures) at (c .before .before .before .before .before .before .height-of .ensures .0) in
+    let h = rk _ (c .before .before .before .before .before .before .height-of .ok) ∙ rw (c .before .before .before .before .before .before .before .before .quarters .ensures, c .before .before .before .before .before .before .before .quarters2 .ensures) at (c .before .before .before .before .before .before .height-of .ensures .0) in
     rw (h, c .before .before .before .before .edge-of .ensures, c .before .before .edge-of2 .ensures, reads-edge (p .edges .uly), reads-edge (p .edges .lry), reads15 (p .range .frame-y)) at (c .cut-axis .ensures)
 
 pub down-spec : {M : Type 1} → statement M
 down-spec =
     tie.close
     (tie.spec
-    extent-of-requires
-    extent-of-requires-2
+    quarters-requires
+    quarters-requires-2
     height-of-requires
     edge-of-requires
     edge-of-requires-2

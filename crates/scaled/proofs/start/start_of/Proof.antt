@@ -17,14 +17,14 @@ use Rattle.scaled.specs.StartLaw.{start-in}
 use Rattle.scaled.proofs.start.start_of.Statement.{statement}
 use Rattle.scaled.proofs.start.start_of.Tie as tie
 
-extent-of-requires : tie.Need-extent-of-requires
-extent-of-requires c κs = search needs
+quarters-requires : tie.Need-quarters-requires
+quarters-requires c κs = search needs
 
 mul-source-w : tie.Need-mul-source-w
 mul-source-w c = omega (zarith, extent-le (c .before .pre .0 .range .image-w))
 
-extent-of-requires-2 : tie.Need-extent-of-requires-2
-extent-of-requires-2 c κs = search needs
+quarters-requires-2 : tie.Need-quarters-requires-2
+quarters-requires-2 c κs = search needs
 
 mul-source-h : tie.Need-mul-source-h
 mul-source-h c = omega (zarith, extent-le (c .before .before .pre .0 .range .image-h))
@@ -46,17 +46,17 @@ position-after-requires-2 c κs =
     let r = c .before .before .before .before .pre .0 .range in
     (extent-le (r .image-y), (c .before .before .before .before .pre .1 .top, r .scale-h))
 
-carry-le : (c : tie.After-position-after) → c .position-after .result / (c .before .before .before .extent-of .result * 8) ≤ 2 ^ 23
-carry-le c = quotient-le (2 ^ 23) (c .position-after .result) (c .before .before .before .extent-of .result * 8) (c .position-after .ensures .1) (omega (arith, c .before .before .before .before .pre .0 .image-w))
+carry-le : (c : tie.After-position-after) → c .position-after .result / (c .before .before .before .quarters .result * 8) ≤ 2 ^ 23
+carry-le c = quotient-le (2 ^ 23) (c .position-after .result) (c .before .before .before .quarters .result * 8) (c .position-after .ensures .1) (omega (arith, c .before .before .before .before .pre .0 .image-w))
 
 abbrev y : tie.After-position-after2 → ℕ
-y c = c .position-after2 .result + c .before .position-after .result / (c .before .before .before .before .extent-of .result * 8) * 32
+y c = c .position-after2 .result + c .before .position-after .result / (c .before .before .before .before .quarters .result * 8) * 32
 
 y-le : (c : tie.After-position-after2) → y c ≤ 2 ^ 29
 y-le c = omega (arith, carry-le (c .before))
 
-wrapped-le : (c : tie.After-position-after2) → y c / (c .before .before .before .extent-of2 .result * 8) * (c .before .before .before .extent-of2 .result * 8) ≤ 2 ^ 29
-wrapped-le c = omega (arith, y-le c, div-mul-le-self (y c) (c .before .before .before .extent-of2 .result * 8))
+wrapped-le : (c : tie.After-position-after2) → y c / (c .before .before .before .quarters2 .result * 8) * (c .before .before .before .quarters2 .result * 8) ≤ 2 ^ 29
+wrapped-le c = omega (arith, y-le c, div-mul-le-self (y c) (c .before .before .before .quarters2 .result * 8))
 
 mul-y : tie.Need-mul-y
 mul-y c = omega (arith, carry-le (c .before))
@@ -85,8 +85,8 @@ rem-t11 c = search needs
 abbrev start : tie.After-origin-of → Start
 start c =
     let x = c .before .before .before .position-after .result in
-    let w = c .before .before .before .before .before .before .extent-of .result * 8 in
-    let h = c .before .before .before .before .before .extent-of2 .result * 8 in
+    let w = c .before .before .before .before .before .before .quarters .result * 8 in
+    let h = c .before .before .before .before .before .quarters2 .result * 8 in
     record { «image_x» = x % w; «image_y» = y (c .before .before) % h; origin = toZ w64 (ofZ w64 (c .origin-of .result)); carry = x / w; wrap = y (c .before .before) / h }
 
 start-is : (c : tie.After-origin-of) → start c ≡ startOf (c .before .before .before .before .before .before .before .args .bg) (c .before .before .before .before .before .before .before .args .c)
@@ -99,8 +99,8 @@ start-is c =
       c .before .before .position-after2 .ensures .0,
       c .before .before .before .position-after .ensures .0,
       c .before .before .before .before .chosen .ensures,
-      c .before .before .before .before .before .extent-of2 .ensures,
-      c .before .before .before .before .before .before .extent-of .ensures,
+      c .before .before .before .before .before .quarters2 .ensures,
+      c .before .before .before .before .before .before .quarters .ensures,
     )
 
 returns : tie.Need-returns
@@ -110,9 +110,9 @@ pub start-of-spec : {M : Type 1} → statement M
 start-of-spec =
     tie.close
     (tie.spec
-    extent-of-requires
+    quarters-requires
     mul-source-w
-    extent-of-requires-2
+    quarters-requires-2
     mul-source-h
     chosen-requires
     position-after-requires

@@ -7,8 +7,8 @@ use Rattle.scaled.specs.Range.{extent-le}
 use Rattle.scaled.proofs.strip.columns_of.Statement.{statement}
 use Rattle.scaled.proofs.strip.columns_of.Tie as tie
 
-extent-of-requires : tie.Need-extent-of-requires
-extent-of-requires c κs = search needs
+quarters-requires : tie.Need-quarters-requires
+quarters-requires c κs = search needs
 
 mul-source-w : tie.Need-mul-source-w
 mul-source-w c = omega (arith, extent-le (c .before .pre .0 .range .image-w))
@@ -43,7 +43,7 @@ s-of-requires c κs = (c .column-of .ensures .1, omega (arith, c .before .before
 returns : tie.Need-returns
 returns c =
     let w = c .before .before .before .before .before .sampled-by .ensures .0 in
-    let x = c .before .before .before .before .before .before .extent-of .ensures in
+    let x = c .before .before .before .before .before .before .quarters .ensures in
     record {
       split = rw (w, x) at (c .before .before .before .before .split-of .ensures);
       stride = rw x at (c .before .before .before .bytes-of .ensures);
@@ -55,7 +55,7 @@ pub columns-of-spec : {M : Type 1} → statement M
 columns-of-spec =
     tie.close
     (tie.spec
-    extent-of-requires
+    quarters-requires
     mul-source-w
     sampled-by-requires
     mul-slice-width

@@ -9,14 +9,14 @@ use Rattle.scaled.specs.Strip.{lineOf}
 use Rattle.scaled.proofs.strip.line_of.Statement.{statement}
 use Rattle.scaled.proofs.strip.line_of.Tie as tie
 
-extent-of-requires : tie.Need-extent-of-requires
-extent-of-requires c κs = search needs
+quarters-requires : tie.Need-quarters-requires
+quarters-requires c κs = search needs
 
 mul-source-w : tie.Need-mul-source-w
 mul-source-w c = omega (arith, extent-le (c .before .pre .0 .range .image-w))
 
-extent-of-requires-2 : tie.Need-extent-of-requires-2
-extent-of-requires-2 c κs = search needs
+quarters-requires-2 : tie.Need-quarters-requires-2
+quarters-requires-2 c κs = search needs
 
 sampled-by-requires : tie.Need-sampled-by-requires
 sampled-by-requires c κs = (omega (arith, extent-le (c .before .before .pre .0 .range .frame-w)), c .before .before .pre .0 .range .scale-w)
@@ -48,17 +48,17 @@ returns c =
       c .max-slice-of .ensures .0,
       c .before .shift-of .ensures .0,
       c .before .before .sampled-by .ensures .0,
-      c .before .before .before .extent-of2 .ensures,
-      c .before .before .before .before .extent-of .ensures,
+      c .before .before .before .quarters2 .ensures,
+      c .before .before .before .before .quarters .ensures,
     ) (refl, omega arith)
 
 pub line-of-spec : {M : Type 1} → statement M
 line-of-spec =
     tie.close
     (tie.spec
-    extent-of-requires
+    quarters-requires
     mul-source-w
-    extent-of-requires-2
+    quarters-requires-2
     sampled-by-requires
     shift-of-requires
     max-slice-of-requires

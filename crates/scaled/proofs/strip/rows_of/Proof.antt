@@ -27,8 +27,8 @@ rows-are c = rw (c .before .scaled-capacity .ensures .is, c .before .before .lin
 frame-rows-of-requires : tie.Need-frame-rows-of-requires
 frame-rows-of-requires c κs = (rw (c .minus .ensures) (rows-le (c .before .scaled-capacity .result) (c .before .before .line-of .result) (c .before .before .before .args .bilerp) (c .before .scaled-capacity .ensures .most)), c .before .before .before .pre .0 .scale-h)
 
-extent-of-requires : tie.Need-extent-of-requires
-extent-of-requires c κs = search needs
+quarters-requires : tie.Need-quarters-requires
+quarters-requires c κs = search needs
 
 mul-source-rows : tie.Need-mul-source-rows
 mul-source-rows c = omega (arith, extent-le (c .before .before .before .before .before .pre .0 .range .image-h))
@@ -40,7 +40,7 @@ returns c =
       line = c .before .before .before .before .line-of .ensures .0;
       image-rows = r;
       frame-rows = rw r at (c .before .frame-rows-of .ensures);
-      source-rows = ap (λ (n : ℕ). n * 8 / 32) (c .extent-of .ensures);
+      source-rows = ap (λ (n : ℕ). n * 8 / 32) (c .quarters .ensures);
     }
 
 pub rows-of-spec : {M : Type 1} → statement M
@@ -52,6 +52,6 @@ rows-of-spec =
     div-minus
     minus-requires
     frame-rows-of-requires
-    extent-of-requires
+    quarters-requires
     mul-source-rows
     returns)

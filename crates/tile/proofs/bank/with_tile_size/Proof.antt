@@ -15,37 +15,33 @@ returns c =
     let h : length (c .before .args .t1 .tiles) ≤ c .before .args .index = omega (arith, eight (c .before .args .t1) (c .before .good .0)) in
     simp set-out
 
-mul-tile : tie.Need-mul-tile
-mul-tile c = search needs
+mul-resized : tie.Need-mul-resized
+mul-resized c = search needs
 
-element-copy-out-tile : tie.Need-element-copy-out-tile
-element-copy-out-tile c = search needs
+element-copy-out-resized : tie.Need-element-copy-out-resized
+element-copy-out-resized c = search needs
 
-texels-requires : tie.Need-texels-requires
-texels-requires c κs = search needs
+resized-requires : tie.Need-resized-requires
+resized-requires c κs = search needs
 
-texels-requires-2 : tie.Need-texels-requires-2
-texels-requires-2 c κs = search needs
+mul-t16 : tie.Need-mul-t16
+mul-t16 c = search needs
 
-mul-tile-2 : tie.Need-mul-tile-2
-mul-tile-2 c = search needs
-
-element-set-from-tile : tie.Need-element-set-from-tile
-element-set-from-tile c = search needs
+element-set-from-next : tie.Need-element-set-from-next
+element-set-from-next c = search needs
 
 returns-2 : tie.Need-returns-2
 unfolding setSize
-returns-2 c = simp (c .before .texels .ensures, c .texels2 .ensures)
+returns-2 c = simp (c .resized .ensures)
 
 pub with-tile-size-spec : {M : Type 1} → statement M
 with-tile-size-spec =
     tie.close
     (tie.spec
     returns
-    mul-tile
-    element-copy-out-tile
-    texels-requires
-    texels-requires-2
-    mul-tile-2
-    element-set-from-tile
+    mul-resized
+    element-copy-out-resized
+    resized-requires
+    mul-t16
+    element-set-from-next
     returns-2)

@@ -1,4 +1,5 @@
 -- `tile::load::offset` meets its contract: two products of bounded numbers, and their sum. Assumes nothing.
+use mathlib.Core.Path.{refl}
 use Prim.Native.Nat.{_/_}
 use native.Mathlib.Omega.{arith}
 use Rattle.tile.proofs.Product.{fits-mul, most-mul}
@@ -30,7 +31,7 @@ add-result c =
     )
 
 returns : tie.Need-returns
-returns c = cc
+returns c = rw (c .power .ensures .is) refl
 
 pub offset-spec : {M : Type 1} → statement M
 offset-spec =

@@ -1,4 +1,5 @@
 -- `tile::load::words_per_row` meets its contract: a quotient is at most what is divided. Assumes nothing.
+use mathlib.Core.Path.{refl}
 use Prim.Native.Nat.{_-_}
 use native.Mathlib.Omega.{arith}
 use native.Mathlib.Nat.{div-le-self}
@@ -25,7 +26,7 @@ add-result c = omega (arith, div-le-self (c .before .less .result) (c .power .re
 returns : tie.Need-returns
 returns c =
     record {
-      is = cc;
+      is = rw (c .before .less .ensures, c .power .ensures .is) refl;
       most = omega (arith, div-le-self (c .before .less .result) (c .power .result));
     }
 

@@ -1,83 +1,50 @@
--- `words::entry::bank_after` meets its contract: each arm is the definition's clause, by what the setters ensure. Assumes nothing.
-use Rattle.plan.specs.Run.{bankStep}
+-- `words::entry::bank_after` meets its contract: one tile is changed, or none. Assumes nothing.
+use Rattle.words.specs.Tiles.{bank-set, bank-kept}
+use mathlib.Core.Path.{sym}
+use native.Mathlib.Omega.{arith}
+use Rattle.tile.proofs.Known.{eight}
 use borrow.Author.Needs.{needs}
 use Rattle.words.proofs.entry.bank_after.Statement.{statement}
 use Rattle.words.proofs.entry.bank_after.Tie as tie
 
-enum-known-e : tie.Need-enum-known-e
-enum-known-e c = search needs
-
-described-requires : tie.Need-described-requires
-described-requires c κs = search needs
-
-cast-with-tile : tie.Need-cast-with-tile
-cast-with-tile c = search needs
-
-with-tile-requires : tie.Need-with-tile-requires
-with-tile-requires c κs = search needs
-
-enum-known-e-2 : tie.Need-enum-known-e-2
-enum-known-e-2 c = search needs
-
-cast-with-tile-size : tie.Need-cast-with-tile-size
-cast-with-tile-size c = search needs
-
-with-tile-size-requires : tie.Need-with-tile-size-requires
-with-tile-size-requires c κs = search needs
-
-enum-known-e-3 : tie.Need-enum-known-e-3
-enum-known-e-3 c = search needs
-
-cast-with-tile-size-2 : tie.Need-cast-with-tile-size-2
-cast-with-tile-size-2 c = search needs
-
-with-tile-size-requires-2 : tie.Need-with-tile-size-requires-2
-with-tile-size-requires-2 c κs = search needs
-
-enum-told : tie.Need-enum-told
-enum-told c = search needs
-
-enum-told-2 : tie.Need-enum-told-2
-enum-told-2 c = search needs
+changed-requires : tie.Need-changed-requires
+changed-requires c κs = search needs
 
 returns : tie.Need-returns
-unfolding bankStep
-returns c = rw (c .before .before .before .e .given .1, c .with-tile .ensures, c .before .described .ensures)
+returns c =
+    let s = c .before .before in
+    sym (bank-kept (s .args .t1) (s .args .e) (eight (s .args .t1) (s .good .0)) (omega (arith, c .before .changed .ensures)))
+
+mul-tile-after : tie.Need-mul-tile-after
+mul-tile-after c = search needs
+
+element-copy-out-tile-after : tie.Need-element-copy-out-tile-after
+element-copy-out-tile-after c = search needs
+
+tile-after-requires : tie.Need-tile-after-requires
+tile-after-requires c κs = search needs
+
+mul-t13 : tie.Need-mul-t13
+mul-t13 c = search needs
+
+element-set-from-next : tie.Need-element-set-from-next
+element-set-from-next c = search needs
 
 returns-2 : tie.Need-returns-2
-unfolding bankStep
-returns-2 c = rw (c .before .before .e2 .given .1, c .with-tile-size .ensures)
-
-returns-3 : tie.Need-returns-3
-unfolding bankStep
-returns-3 c = rw (c .before .before .e3 .given .1, c .with-tile-size2 .ensures)
-
-returns-4 : tie.Need-returns-4
-unfolding bankStep
-returns-4 c = rw (c .enum-told .given .1)
-
-returns-5 : tie.Need-returns-5
-unfolding bankStep
-returns-5 c = rw (c .enum-told2 .given .1)
+returns-2 c =
+    let s = c .before .before .before .before in
+    let i = c .before .before .before .changed .ensures in
+    rw (c .tile-after .ensures, i) (sym (bank-set (s .args .t1) (s .args .e) (omega (arith, i))))
 
 pub bank-after-spec : {M : Type 1} → statement M
 bank-after-spec =
     tie.close
     (tie.spec
-    enum-known-e
-    described-requires
-    cast-with-tile
-    with-tile-requires
-    enum-known-e-2
-    cast-with-tile-size
-    with-tile-size-requires
-    enum-known-e-3
-    cast-with-tile-size-2
-    with-tile-size-requires-2
-    enum-told
-    enum-told-2
+    changed-requires
     returns
-    returns-2
-    returns-3
-    returns-4
-    returns-5)
+    mul-tile-after
+    element-copy-out-tile-after
+    tile-after-requires
+    mul-t13
+    element-set-from-next
+    returns-2)

@@ -1,0 +1,67 @@
+-- What the exported functions leave: refused calls, and a run whose parts keep their promises. Assumes nothing.
+use mathlib.Core.Path.{_≡_, ap, _∙_}
+use mathlib.Core.Bool.{true, false}
+use mathlib.Core.List.{List}
+use Prim.Native.Nat.{ℕ}
+use lib.Dec.{eqb}
+use lib.ListN.{length}
+use borrow.Author.Tests.{eq-eqb, ne-eqb}
+use Rattle.tile.specs.declared.bank.Bank.{Bank}
+use Rattle.plan.specs.declared.types.End.{End}
+use Rattle.plan.specs.Out.{Plan}
+use Rattle.plan.specs.Whole.{planOf}
+use Rattle.plan.specs.Run.{endOf, runOf}
+use Rattle.plan.specs.Steps.{Coming}
+use Rattle.planner.specs.declared.types.Planner.{Planner}
+use Rattle.planner.specs.declared.types.Ran.{Ran}
+use Rattle.planner.specs.Coming.{coming, Fresh}
+use Rattle.planner.specs.Ran.{RanIs}
+use Rattle.words.specs.Host.{bankFrom, bankNumbers, endNumbers}
+use Rattle.request.specs.declared.types.Request.{Request}
+use Rattle.request.specs.Host.{withBytes, hostRequest}
+use Rattle.export.specs.Host.{left, ranLeft, hostRun, counted, hostCount}
+
+module _ (object request bank plan end : List ℕ) where
+  pub odd-request : (length request ≡ 7 → ⊥) → left 1 bank plan end ≡ hostRun object request bank plan end
+  unfolding hostRun
+  odd-request n = rw (ne-eqb (length request) 7 n)
+
+  pub odd-bank : length request ≡ 7 → (length bank ≡ 136 → ⊥) → left 1 bank plan end ≡ hostRun object request bank plan end
+  unfolding hostRun
+  odd-bank q n = rw (eq-eqb (length request) 7 q, ne-eqb (length bank) 136 n)
+
+  pub odd-end : length request ≡ 7 → length bank ≡ 136 → (length end ≡ 4 → ⊥) → left 1 bank plan end ≡ hostRun object request bank plan end
+  unfolding hostRun
+  odd-end q b n = rw (eq-eqb (length request) 7 q, eq-eqb (length bank) 136 b, ne-eqb (length end) 4 n)
+
+  fitting : length request ≡ 7 → length bank ≡ 136 → length end ≡ 4 → ranLeft (runOf (planOf (hostRequest object request)) plan (bankFrom bank)) ≡ hostRun object request bank plan end
+  unfolding hostRun
+  fitting q b e = rw (eq-eqb (length request) 7 q, eq-eqb (length bank) 136 b, eq-eqb (length end) 4 e)
+
+  module _ (x : Request) (p : (bytes : List ℕ) → planOf (withBytes bytes x) ≡ planOf (hostRequest bytes request)) (b : Bank) (k : b ≡ bankFrom bank) where
+    pub ran : (bank′ plan′ end′ : List ℕ) (r : Ran) → length request ≡ 7 → length bank ≡ 136 → length end ≡ 4 → RanIs object (x .opcode) (x .scissor) (x .mode) (x .address) plan b plan′ r
+        → bank′ ≡ bankNumbers (r .bank) → end′ ≡ endNumbers (r .end) → left 0 bank′ plan′ end′ ≡ hostRun object request bank plan end
+    ran bank′ plan′ end′ r q l m h i j =
+        (λ n. left 0 ((i ∙ ap bankNumbers (h .bank)) n) (h .buffer n) ((j ∙ ap endNumbers (h .end)) n))
+        ∙ ap (λ (z : Plan). ranLeft (runOf z plan b)) (p object)
+        ∙ ap (λ (z : Bank). ranLeft (runOf (planOf (hostRequest object request)) plan z)) k
+        ∙ fitting q l m
+
+module _ (object request end : List ℕ) where
+  pub odd-request-there : (length request ≡ 7 → ⊥) → counted 1 end ≡ hostCount object request end
+  unfolding hostCount
+  odd-request-there n = rw (ne-eqb (length request) 7 n)
+
+  pub odd-end-there : length request ≡ 7 → (length end ≡ 4 → ⊥) → counted 1 end ≡ hostCount object request end
+  unfolding hostCount
+  odd-end-there q n = rw (eq-eqb (length request) 7 q, ne-eqb (length end) 4 n)
+
+  counting : length request ≡ 7 → length end ≡ 4 → counted 0 (endNumbers (endOf (planOf (hostRequest object request)))) ≡ hostCount object request end
+  unfolding hostCount
+  counting q e = rw (eq-eqb (length request) 7 q, eq-eqb (length end) 4 e)
+
+  pub counts : (x : Request) → ((bytes : List ℕ) → planOf (withBytes bytes x) ≡ planOf (hostRequest bytes request)) → (p : Planner) (r : End) (end′ : List ℕ) → length request ≡ 7 → length end ≡ 4
+      → Fresh object (x .opcode) (x .scissor) (x .mode) (x .address) p → r ≡ coming p .end → end′ ≡ endNumbers r → counted 0 end′ ≡ hostCount object request end
+  counts x i p r end′ q e f j k =
+      ap (counted 0) (k ∙ ap endNumbers (j ∙ ap (λ (c : Coming). c .end) (f .coming)) ∙ ap (λ (z : Plan). endNumbers (endOf z)) (i object))
+      ∙ counting q e

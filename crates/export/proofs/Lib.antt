@@ -1,0 +1,2 @@
+-- The laws of what the exported functions leave.
+pub mod Left

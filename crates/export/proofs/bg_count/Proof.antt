@@ -1,0 +1,57 @@
+-- `export::bg_count` meets its contract: a fresh planner has the whole plan to come, and steps to its end. Assumes nothing.
+use Rattle.export.proofs.Left.{odd-request-there, odd-end-there, counts}
+use borrow.Author.Needs.{needs}
+use Rattle.export.proofs.bg_count.Statement.{statement}
+use Rattle.export.proofs.bg_count.Tie as tie
+
+returns : tie.Need-returns
+returns c = let a = c .before .before .before .before .args in odd-request-there (a .object .now) (a .request .now) (a .end .now) (c .if1 .taken)
+
+returns-2 : tie.Need-returns-2
+returns-2 c = let a = c .before .before .before .before .before .args in odd-end-there (a .object .now) (a .request .now) (a .end .now) (c .before .if1 .left) (c .if2 .taken)
+
+from-words-requires : tie.Need-from-words-requires
+from-words-requires c κs = search needs
+
+fresh-requires : tie.Need-fresh-requires
+fresh-requires c κs = search needs
+
+last-requires : tie.Need-last-requires
+last-requires c κs = search needs
+
+end-into-requires : tie.Need-end-into-requires
+end-into-requires c κs = search needs
+
+same-length : tie.Need-same-length
+same-length c = search needs
+
+returns-3 : tie.Need-returns-3
+returns-3 c =
+    let l = c .before .before .before in
+    let f = l .before .before in
+    let q = f .before in
+    let a = q .before .before .before .before .before .before .args in
+    counts (a .object .now) (a .request .now) (a .end .now)
+    (q .from-words .result)
+    (q .from-words .ensures)
+    (f .fresh .result)
+    (l .last .result)
+    _
+    (q .before .before .if1 .left)
+    (q .before .if2 .left)
+    (f .fresh .ensures)
+    (l .last .ensures)
+    (c .before .before .end-into .ensures)
+
+pub bg-count-spec : {M : Type 1} → statement M
+bg-count-spec =
+    tie.close
+    (tie.spec
+    returns
+    returns-2
+    from-words-requires
+    fresh-requires
+    last-requires
+    end-into-requires
+    same-length
+    returns-3)

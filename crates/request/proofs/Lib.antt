@@ -1,0 +1,2 @@
+-- That cutting a host's numbers leaves the plan as it is.
+pub mod Cut

@@ -1,0 +1,2 @@
+-- A request out of a host's words.
+pub mod Host

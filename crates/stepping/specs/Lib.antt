@@ -1,0 +1,2 @@
+-- The laws by which a loop of steps ends.
+pub mod Stepping
