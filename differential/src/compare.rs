@@ -3,20 +3,22 @@
 //! Usage: compare RECORDS [SEED [THREADS]]
 //!        compare --record HEX [OBJECT_BYTES [BANK_SEED]]
 //!
-//! Document 01's cases, the records of edges.rs and the longest plan come first. Random records come
-//! in blocks of 1,000, each of one mode of the generator and from a seed of its own,
+//! Document 01's cases, the records of edges.rs and the longest plan come first. Random records come in
+//! blocks of 1,000, each of one mode of the generator and from a seed of its own,
 //! so that the same records are compared whatever the number of threads. Each record has its own
 //! random bank and is run into a buffer with room for all, into one that is too short by 0 to 11
 //! words and, now and then, into one of any length and one of no words.
 
 #![allow(dead_code, unused_imports, unexpected_cfgs)]
 
+mod case;
 mod cases;
 mod diag;
 mod edges;
 mod entry;
 mod fnv;
 mod generate;
+mod guarded;
 mod hle;
 mod inspect;
 mod machine;
@@ -30,7 +32,9 @@ mod scene;
 pub use diag::{DiagKind, Diagnostic, MemoryAccess};
 pub use hle::mem::{MemoryError, MemoryErrorKind};
 
+use case::{without, Case};
 use generate::Mode;
+use guarded::Buffers;
 use plan::{End, Sink};
 use proved::{BANK_WORDS, END_WORDS, REQUEST_WORDS};
 use random::Random;
@@ -53,152 +57,6 @@ const MODES: [(&str, Mode); 8] = [
     ("damaged", Mode::Damaged),
     ("wild", Mode::Wild),
 ];
-/// Words before and after each buffer that no call may change.
-const GUARD: usize = 16;
-
-/// A record with what goes in beside it.
-#[derive(Clone)]
-struct Case {
-    record: Record,
-    /// The object as the proved code gets it: 40 bytes, fewer, or more than are read.
-    object: Vec<u8>,
-    /// The request as the proved code gets it. Where an edge or the opcode is wider than in the
-    /// record, the record has 65,535 or 0 in its place, which is refused just as well.
-    request: [u64; REQUEST_WORDS],
-    bank_seed: Option<u64>,
-    /// The bank's words have bits above their fields' widths, which are to be cut.
-    wide_bank: bool,
-    /// Chooses the buffers' lengths and what stands in them before.
-    draw: u64,
-}
-
-impl Case {
-    fn random(random: &mut Random, mode: Mode) -> Case {
-        let mut record = generate::generate(random, mode);
-        let mut object = record.object.to_vec();
-        match random.below(16) {
-            0 => object.truncate(random.pick(&[0, 1, 15, 28, 32, 34, 35, 36, 37, 38, 39])),
-            1 => object.extend((0..random.within(1, 24)).map(|_| random.next() as u8)),
-            _ => {}
-        }
-        let wide = widened(random, &mut record);
-        let mut case = Case {
-            object,
-            bank_seed: Some(random.next()),
-            wide_bank: random.once_in(16),
-            draw: random.next(),
-            ..Case::fixed(record, OBJECT_BYTES)
-        };
-        for (place, word) in wide {
-            case.request[place] = word;
-        }
-        case
-    }
-
-    fn fixed(record: Record, object_bytes: usize) -> Case {
-        Case {
-            record,
-            object: record.object[..object_bytes].to_vec(),
-            request: request(&record),
-            bank_seed: Some(1),
-            wide_bank: false,
-            draw: 1,
-        }
-    }
-
-    fn settings(&self, capacity: u64) -> Settings {
-        Settings {
-            bank: initial_bank(self.bank_seed),
-            object_bytes: self.object.len().min(OBJECT_BYTES),
-            capacity,
-            span_check: false,
-        }
-    }
-}
-
-fn request(record: &Record) -> [u64; REQUEST_WORDS] {
-    let [ulx, uly, lrx, lry] = record.scissor.map(u64::from);
-    let (mode, address) = (record.render_mode.into(), record.address);
-    [record.opcode.into(), ulx, uly, lrx, lry, mode, address]
-}
-
-/// Now and then a word of the request that the record's bytes cannot hold: an opcode above 255, an
-/// edge that is negative or above 65,535, a render mode with bits above the 32 that count.
-fn widened(random: &mut Random, record: &mut Record) -> Vec<(usize, u64)> {
-    let mut wide = Vec::new();
-    if random.once_in(300) {
-        wide.push((
-            0,
-            u64::from(record.opcode) + 256 * random.within(1, 9) as u64,
-        ));
-        record.opcode = 0;
-    }
-    if random.once_in(200) {
-        let place = random.below(4) as usize;
-        let negative = random.pick(&[-1i64, -4, -1024, i64::from(i32::MIN)]) as u64;
-        let above = random.pick(&[1 << 16, 0x7fff_ffff, (1 << 32) + 5, 1 << 63]);
-        wide.push((1 + place, random.pick(&[negative, above])));
-        record.scissor[place] = u16::MAX;
-    }
-    if random.once_in(4) {
-        let mode = u64::from(record.render_mode) + (random.next() << 32);
-        wide.push((5, mode));
-    }
-    wide
-}
-
-/// A buffer between guard words, all filled with one mark.
-struct Guarded {
-    words: Vec<u64>,
-    length: usize,
-    mark: u64,
-}
-
-impl Guarded {
-    fn new() -> Self {
-        Guarded {
-            words: Vec::new(),
-            length: 0,
-            mark: 0,
-        }
-    }
-
-    fn fill(&mut self, length: usize, mark: u64) -> &mut [u64] {
-        (self.length, self.mark) = (length, mark);
-        self.words.clear();
-        self.words.resize(length + 2 * GUARD, mark);
-        &mut self.words[GUARD..GUARD + length]
-    }
-
-    fn inside(&self) -> &[u64] {
-        &self.words[GUARD..GUARD + self.length]
-    }
-
-    /// Whether all words but the first `written` inside are as they were.
-    fn untouched_but(&self, written: usize) -> bool {
-        let (before, rest) = self.words.split_at(GUARD);
-        before
-            .iter()
-            .chain(&rest[written..])
-            .all(|w| *w == self.mark)
-    }
-}
-
-struct Buffers {
-    bank: Guarded,
-    plan: Guarded,
-    end: Guarded,
-}
-
-impl Buffers {
-    fn new() -> Self {
-        Buffers {
-            bank: Guarded::new(),
-            plan: Guarded::new(),
-            end: Guarded::new(),
-        }
-    }
-}
 
 #[derive(Clone, Default)]
 struct Tally {
@@ -432,24 +290,6 @@ fn hex(bytes: &[u8]) -> String {
 
 fn differs(case: &Case) -> bool {
     compare(case, &mut Buffers::new(), &mut Tally::default()).is_some()
-}
-
-/// The case with one byte of its record set to 0; nothing if it is.
-fn without(case: &Case, at: usize) -> Option<Case> {
-    let mut bytes = case.record.to_bytes();
-    if bytes[at] == 0 {
-        return None;
-    }
-    bytes[at] = 0;
-    let mut simpler = case.clone();
-    simpler.record = Record::from_bytes(&bytes);
-    if at < simpler.object.len().min(OBJECT_BYTES) {
-        simpler.object[at] = 0;
-    }
-    if at >= OBJECT_BYTES {
-        simpler.request = request(&simpler.record);
-    }
-    Some(simpler)
 }
 
 /// The case made simpler as long as some difference stays, so that few numbers are left to read.

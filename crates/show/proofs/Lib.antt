@@ -1,0 +1,3 @@
+-- The laws of columns and rows.
+pub mod Columns
+pub mod Rows
