@@ -31,7 +31,7 @@ use Rattle.passes.specs.Coming.{passesOf, drawn, passFrom}
 use Rattle.passes.specs.Rounds.{passes-over, idle-round, draw-round}
 use Rattle.passes.specs.Loads.{after-yield, after-refuse}
 use Rattle.passes.specs.Comes.{bounded, within, floor-in, times-in, difference-in, wider}
-use Rattle.passes.specs.Kept.{idle-kept}
+use Rattle.passes.specs.Kept.{idle-kept, not-over}
 use Rattle.passes.specs.Enter.{reaches-as, ended-as}
 use Rattle.passes.specs.Sound.{SoundWalk, SoundPass, Runs, Reaches, dueLines, cutLines, cutRows}
 
@@ -119,10 +119,6 @@ cut-high z rows left zs f = by (ltZ left (pos 0))
     by : (t : Bool) → cond t (minZ (rows +ℤ floorDiv (left *ℤ pos (z .«scale_h»)) 1024 +ℤ pos 1) (pos (z .«image_rows»))) rows ≤ℤ pos 512
     by true = least-high (rows +ℤ floorDiv (left *ℤ pos (z .«scale_h»)) 1024 +ℤ pos 1) (pos (z .«image_rows»)) 512 (omega (zarith, zs .image-rows′))
     by false = f
-
-not-over : (v : ℤ) → pos 1 ≤ℤ v → ltZ v (pos 0) ≡ false
-not-over (pos n) h = le-ltb n 0 (omega arith)
-not-over (negsuc n) h = absurd (omega zarith)
 
 -- the place before a pass's load
 pub pass-sound : (z : Scaled) (w : Walk) (p : Place) → Runs z w → 1 ≤ drawOf w → p .scaled ≡ z → p .walk ≡ w → p .rows ≡ rowsOf z w (drawOf w) → p .lines ≡ linesOf w (drawOf w) → SoundPass p

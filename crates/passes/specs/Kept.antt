@@ -46,8 +46,8 @@ moved : (o : Out ℕ) (r : ℤ) (next : Source) → yield next ≡ (o >>= (λ p.
 moved (go es p) r next e = ap remainOf e
 moved (stop es l v) r next e = absurd (false≢true (sym (ap goes e)))
 
-same : (d r : ℤ) (n : ℕ) → r ≡ d → Left d n r
-same d r n e = rw e (record { low = omega arith; high = omega arith })
+pub stay-left : (d r : ℤ) (n : ℕ) → r ≡ d → Left d n r
+stay-left d r n e = rw e (record { low = omega arith; high = omega arith })
 
 turned : (d r : ℤ) (n : ℕ) → r ≡ d +ℤ pos n → ltZ (pos 0) d ≡ false → Left d n r
 turned (pos d) r n e t = rw e (record { low = omega arith; high = omega zarith })
@@ -58,13 +58,10 @@ pub advance-left : (z : Scaled) (src : Source) (rows : ℤ) (next : Source) → 
 advance-left z src rows next e = by (ltZ (pos 0) (src .remain -ℤ rows)) refl
   where
     by : (t : Bool) → ltZ (pos 0) (src .remain -ℤ rows) ≡ t → Left (src .remain -ℤ rows) (z .«source_rows») (next .remain)
-    by true t = same (src .remain -ℤ rows) (next .remain) (z .«source_rows») (moved (sourceAddress (src .pointer) (pos (z .stride) *ℤ rows)) (src .remain -ℤ rows) next (e ∙ advance-on z src rows t))
+    by true t = stay-left (src .remain -ℤ rows) (next .remain) (z .«source_rows») (moved (sourceAddress (src .pointer) (pos (z .stride) *ℤ rows)) (src .remain -ℤ rows) next (e ∙ advance-on z src rows t))
     by false t =
         turned (src .remain -ℤ rows) (next .remain) (z .«source_rows»)
         (moved (sourceAddress (z .address) (negℤ (src .remain -ℤ rows) *ℤ pos (z .stride) +ℤ pos (z .«x_offset»))) (src .remain -ℤ rows +ℤ pos (z .«source_rows»)) next (e ∙ advance-wrap z src rows t)) t
-
-pub stay-left : (d r : ℤ) (n : ℕ) → r ≡ d → Left d n r
-stay-left d r n e = same d r n e
 
 -- the rows left after at most 512 rows, or after rows that were negative
 module _ (a rows r : ℤ) (n : ℕ) (l : Left (a -ℤ rows) n r) (h : rows ≤ℤ pos 512) where
@@ -113,7 +110,7 @@ module _ (z : Scaled) (w : Walk) (s : Source) (zs : SoundScaled z) (h : SoundWal
           }
       by (negsuc c) p d lo hi q r = absurd (omega zarith)
 
-not-over : (v : ℤ) → pos 1 ≤ℤ v → ltZ v (pos 0) ≡ false
+pub not-over : (v : ℤ) → pos 1 ≤ℤ v → ltZ v (pos 0) ≡ false
 not-over (pos n) h = le-ltb n 0 (omega arith)
 not-over (negsuc n) h = absurd (omega zarith)
 

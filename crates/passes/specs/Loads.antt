@@ -20,8 +20,8 @@ use Rattle.plan.specs.Out.Out.{go, stop}
 use Rattle.plan.specs.Load.{sourceAddress}
 use Rattle.plan.specs.Next.{cons, ended}
 use Rattle.plan.specs.Laws.{bind-assoc, more-nil}
+use Rattle.plan.specs.Ties.{wrapped-by}
 use Rattle.plan.specs.Scaled.{tile7, loadPart, load1cycTile, back, fromTop, splitRow, upToEnd, advance, load1cyc}
-use Rattle.signed.specs.Diff.{zdiff, zarith}
 use Rattle.passes.specs.Comes.{times-comm}
 use Rattle.passes.specs.declared.types.Sum.{Sum}
 use Rattle.passes.specs.Coming.{sumOut, loadableOf, splitRows, splitFrom, splitWidth, restOut, wholeOut, pieceOut, drawn, passOut}
@@ -122,10 +122,7 @@ module _ (z : Scaled) (src : Source) (rows remain : ℤ) (s : Sum) (e : remain �
 
   pub advance-by-wrap : (back next : ℤ) → back ≡ (rows -ℤ src .remain) *ℤ pos (z .stride) +ℤ pos (z .«x_offset») → next ≡ remain +ℤ pos (z .«source_rows») → ltZ (pos 0) remain ≡ false → sumOut s ≡ sourceAddress (z .address) back
       → (sumOut s >>= (λ p. yield (record { pointer = p; remain = next }))) ≡ advance z src rows
-  advance-by-wrap back next b n t h = sum-then s _ _ _ h ∙ rw (b, n, e, turned (src .remain) rows) (sym (advance-wrap z src rows (rw e at t)))
-    where
-      turned : (a b : ℤ) → b -ℤ a ≡ negℤ (a -ℤ b)
-      turned a b = simp zdiff (omega zarith)
+  advance-by-wrap back next b n t h = sum-then s _ _ _ h ∙ rw (b, n, e, wrapped-by (src .remain) rows) (sym (advance-wrap z src rows (rw e at t)))
 
 -- R 126: the tests of a part, one after the other
 module _ (rows destination width : ℤ) where

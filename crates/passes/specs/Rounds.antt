@@ -9,7 +9,7 @@ use borrow.Author.Tests.{eqb-true, eqb-false, ltb-true, ltb-false, lt-ltb}
 use lib.Dec.{eqb, ltb}
 use lib.IntN.{ℤ, pos, negsuc, _+ℤ_, _-ℤ_}
 use lib.Signed.{ltZ, _≤ℤ_}
-use Rattle.signed.specs.Diff.{up, zdiff, zparts, zarith}
+use Rattle.signed.specs.Diff.{up}
 use Rattle.signed.specs.Floor.{floorDiv, modulo}
 use Rattle.plan.specs.declared.types.Entry.{Entry}
 use Rattle.plan.specs.declared.types.Scaled.{Scaled}
@@ -17,6 +17,7 @@ use Rattle.plan.specs.declared.types.Source.{Source}
 use Rattle.plan.specs.declared.types.Walk.{Walk}
 use Rattle.plan.specs.Out.{Out, more, _>>=_, _>>_, yield, emit}
 use Rattle.plan.specs.Out.Out.{go, stop}
+use Rattle.plan.specs.Ties.{rows-left}
 use Rattle.plan.specs.Scaled.{drawOf, nextPass, advance, load1cyc, idlePass, drawPass, pass, passes, rowsOf, linesOf, leftAfter, rectOf, afterDraw}
 use Rattle.plan.specs.Laws.{passes-on, passes-end, passes-fuel, pass-same, bind-assoc, more-nil}
 use Rattle.passes.specs.Coming.{passesOf}
@@ -79,10 +80,7 @@ module _ (z : Scaled) (w : Walk) (f c : ℕ) (r : 16 ≤ z .«frame_rows») (som
       n = nextPass z y (w .«frame_remain» -ℤ pos (drawOf w)) (pos (modulo (w .count) 1024)) s
 
       left : up (pos f -ℤ pos (drawOf w)) ≡ f - drawOf w
-      left = cut f (drawOf w)
-        where
-          cut : (a b : ℕ) → up (pos a -ℤ pos b) ≡ a - b
-          cut a b = simp zdiff (simp zparts (omega zarith))
+      left = rows-left f (drawOf w)
 
       by : (v : ℤ) → w .«frame_remain» -ℤ pos (drawOf w) ≡ v → passes (65 * f - 1) z n ≡ passesOf z n
       by (pos g) e =

@@ -14,7 +14,6 @@ use Rattle.object.specs.declared.types.Scissor.{Scissor}
 use Rattle.object.specs.declared.types.Verdict.the-variants as verdict
 use Rattle.tile.specs.declared.bank.Bank.{Bank}
 use Rattle.plan.specs.declared.types.Entry.{Entry}
-use Rattle.plan.specs.declared.types.Entry.the-variants as entry
 use Rattle.plan.specs.declared.types.End.{End}
 use Rattle.plan.specs.declared.types.Answer.{Answer}
 use Rattle.plan.specs.declared.types.Answer.the-variants as answer
@@ -24,6 +23,7 @@ use Rattle.plan.specs.Run.{bankStep, bankAfter, bankOf, entryWords, planWords, 
 use Rattle.plan.specs.Steps.{Coming, comingOf, nextOf, answerOf, bankNext}
 use Rattle.words.specs.declared.count.Counts.{Counts}
 use Rattle.words.specs.Counts.{zeroCounts, countedOf, countedAll, endWith, end-of}
+use Rattle.words.specs.Eleven.{eleven, eleven-each}
 use Rattle.planner.specs.declared.types.Planner.{Planner}
 use Rattle.planner.specs.declared.types.Stepped.{Stepped}
 use Rattle.planner.specs.declared.types.Ran.{Ran}
@@ -62,19 +62,6 @@ pub record Going (k : Coming) (buf : List ℕ) (b₀ : Bank) (out : List ℕ) (p
   pub sound : Sound p
 
 -- ---- lists
-
-eleven : (e : Entry) → length (entryWords e) ≡ 11
-unfolding entryWords
-eleven (entry.Image a b c d) = refl
-eleven (entry.Tile a b c d e f g h i j) = refl
-eleven (entry.Size a b c d e) = refl
-eleven (entry.Load a b c d e f g h i j) = refl
-eleven (entry.Rect a b c d e f g h i j) = refl
-
-pub words-length : (es : List Entry) → length (planWords es) ≡ 11 * length es
-unfolding planWords
-words-length [] = refl
-words-length (e ∷ es) = length-append (entryWords e) (planWords es) ∙ omega (arith, eleven e, words-length es)
 
 words-append : (es fs : List Entry) → planWords (es ++ fs) ≡ planWords es ++ planWords fs
 unfolding planWords
@@ -147,7 +134,7 @@ module _ (k : Coming) (buf : List ℕ) (b₀ : Bank) (out : List ℕ) (p : Plann
         let d : at + 11 ≡ 11 * length (gs ++ e ∷ []) = omega arith in
         let now-is : out′ ≡ planWords (gs ++ e ∷ []) ++ drop (11 * length (gs ++ e ∷ [])) buf =
         o ∙ ap (λ (x : List ℕ). paste x at ws 11) (g .buffer ∙ ap (λ (m : ℕ). planWords gs ++ drop m buf) (sym l))
-        ∙ paste-more (planWords gs) ws buf at (ap length w ∙ eleven e) (words-length gs ∙ sym l)
+        ∙ paste-more (planWords gs) ws buf at (ap length w ∙ eleven e) (eleven-each gs ∙ sym l)
         ∙ ap (λ (x : List ℕ). (planWords gs ++ x) ++ drop (at + 11) buf) w
         ∙ ap (λ (x : List ℕ). x ++ drop (at + 11) buf) (sym (more-words gs e))
         ∙ ap (λ (m : ℕ). planWords (gs ++ e ∷ []) ++ drop m buf) d in

@@ -3,8 +3,10 @@ use borrow.Author.Needs.{needs}
 use mathlib.Core.Path.{_≡_, refl, sym, ap, _∙_}
 use native.Mathlib.Omega.{arith}
 use Rattle.plan.specs.Scaled.{clipOf, scaledEmpty, startOf, scaledOf, slicesBad}
+use Rattle.passes.specs.declared.types.Reached.{Reached}
 use Rattle.passes.specs.Sound.{ClipIn}
 use Rattle.scaled.specs.Range.{usable, near}
+use Rattle.planner.specs.Coming.{StartsScaled, courseOf}
 use Rattle.planner.specs.Start.{scaled-none, scaled-bad, scaled-begins}
 use Rattle.planner.proofs.start.scaled_course.Statement.{statement}
 use Rattle.planner.proofs.start.scaled_course.Tie as tie
@@ -46,6 +48,17 @@ scaled-start-requires c κs =
     let f = c .before .before .before .before .before .before .before .clip-of .ensures .filled (sym (c .before .before .before .before .before .before .clip-empty .ensures) ∙ c .before .before .before .before .before .if1 .left) in
     (first-of-requires (c .before) κs .0, (c .first-of .ensures .sound, record { y = omega (arith, f .y); height = f .height′ }))
 
+-- the walk from its first place, over the definitions
+begun : (c : tie.After-scaled-start) (r : Reached) → c .scaled-start .result ≡ r
+    → StartsScaled (c .before .before .before .before .before .before .before .before .before .args .bg) (c .before .before .before .before .before .before .before .before .before .args .scissor) (c .before .before .before .before .before .before .before .before .before .args .mode) (c .before .before .before .before .before .before .before .before .before .args .address) (courseOf r)
+begun c r e =
+    let a = c .before .before .before .before .before .before .before .before .before .args in
+    let k = c .before .before .before .before .before .before .before .before .clip-of .ensures .is in
+    let i = c .before .before .before .before .before .start-of .ensures .is in
+    let z = c .before .before .before .before .scaled-of .ensures .is in
+    scaled-begins (a .bg) (a .scissor) (a .mode) (a .address) (rw k at (sym (c .before .before .before .before .before .before .before .clip-empty .ensures) ∙ c .before .before .before .before .before .before .if1 .left)) (rw (z, i, k) at (sym (c .before .before .before .slices-bad .ensures) ∙ c .before .before .if2 .left)) r
+    (rw (e, c .before .first-of .ensures .is, z, i, k) at (c .scaled-start .ensures))
+
 enum-known-stage : tie.Need-enum-known-stage
 enum-known-stage c = search needs
 
@@ -53,22 +66,10 @@ enum-known-v : tie.Need-enum-known-v
 enum-known-v c = search needs
 
 returns-3 : tie.Need-returns-3
-returns-3 c =
-    let a = c .before .before .before .before .before .before .before .before .before .before .before .before .args in
-    let k = c .before .before .before .before .before .before .before .before .before .before .before .clip-of .ensures .is in
-    let i = c .before .before .before .before .before .before .before .before .start-of .ensures .is in
-    let z = c .before .before .before .before .before .before .before .scaled-of .ensures .is in
-    scaled-begins (a .bg) (a .scissor) (a .mode) (a .address) (rw k at (sym (c .before .before .before .before .before .before .before .before .before .before .clip-empty .ensures) ∙ c .before .before .before .before .before .before .before .before .before .if1 .left)) (rw (z, i, k) at (sym (c .before .before .before .before .before .before .slices-bad .ensures) ∙ c .before .before .before .before .before .if2 .left))
-    _ (rw (c .before .stage .given .1, c .before .before .before .before .first-of .ensures .is, z, i, k) at (c .before .before .before .scaled-start .ensures))
+returns-3 c = begun (c .before .before .before) _ (c .before .stage .given .1)
 
 returns-4 : tie.Need-returns-4
-returns-4 c =
-    let a = c .before .before .before .before .before .before .before .before .before .before .before .before .args in
-    let k = c .before .before .before .before .before .before .before .before .before .before .before .clip-of .ensures .is in
-    let i = c .before .before .before .before .before .before .before .before .start-of .ensures .is in
-    let z = c .before .before .before .before .before .before .before .scaled-of .ensures .is in
-    scaled-begins (a .bg) (a .scissor) (a .mode) (a .address) (rw k at (sym (c .before .before .before .before .before .before .before .before .before .before .clip-empty .ensures) ∙ c .before .before .before .before .before .before .before .before .before .if1 .left)) (rw (z, i, k) at (sym (c .before .before .before .before .before .before .slices-bad .ensures) ∙ c .before .before .before .before .before .if2 .left))
-    _ (rw (c .before .v .given .1, c .before .before .before .before .first-of .ensures .is, z, i, k) at (c .before .before .before .scaled-start .ensures))
+returns-4 c = begun (c .before .before .before) _ (c .before .v .given .1)
 
 pub scaled-course-spec : {M : Type 1} → statement M
 scaled-course-spec =
