@@ -16,7 +16,7 @@ use Rattle.plan.specs.declared.types.Clip.{Clip}
 use Rattle.plan.specs.Request.{edge}
 use Rattle.plan.specs.Scaled.{clipOf, scaledEmpty}
 use Rattle.scaled.specs.Clip.{greatest, removed, kept, lower, moved, nearCut, farCut, startAt, restOf, lossOf}
-use Rattle.scaled.specs.Number.{or-false, some}
+use Rattle.signed.specs.Bound.{or-false, some}
 use Rattle.scaled.specs.Range.{Filled, edge-le, extent-le}
 
 -- an extent that the scissor does not cut away lies between its edges

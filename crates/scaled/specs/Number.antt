@@ -1,23 +1,17 @@
--- Bounds of products and quotients, a word's units, and tests, over numbers.
+-- Bounds of products and quotients, and a word's units.
 -- Assumes nothing.
-use mathlib.Core.Bool.{Bool, true, false, cond, _||_}
-use mathlib.Core.Path.{_≡_, refl, ap, _∙_}
+use mathlib.Core.Bool.{Bool, true, false, cond}
+use mathlib.Core.Path.{_≡_, ap, _∙_}
 use Prim.Native.Nat.{ℕ, zero, suc, _+_, _-_, _*_, _/_, _%_, _≤_, _^_}
 use native.Mathlib.Omega.{arith}
-use native.Mathlib.Nat.{mul-le-mul, mul-le-mul-left, mul-div-cancel, lt-of-le-of-lt, div-mul-le-self}
-use borrow.Author.Tests.{eqb-false}
-use lib.Dec.{T, ltb, eqb, lit<, lit≤}
+use native.Mathlib.Nat.{mul-le-mul-left, mul-div-cancel, div-mul-le-self}
+use lib.Dec.{lit<, lit≤}
 use lib.Bits.{bitAnd, and-mask}
 use lib.Pow.{pow-pos, pow-add}
 use lib.IntN.{ℤ, pos, negℤ, _+ℤ_, _*ℤ_}
 use lib.Signed.{_≤ℤ_}
-use mir.Syntax.{w64}
-use mir.Val.{Fits}
 use Rattle.signed.specs.Diff.{zdiff, zarith, add-is, →eq}
 use Rattle.signed.specs.Floor.{floorDiv, parts}
-
-pub fits-mul : (m n : ℕ) {a b : ℕ} → T (ltb (m * n) (2 ^ 64)) → a ≤ m → b ≤ n → Fits w64 (a * b)
-fits-mul m n t h k = record { fits = lt-of-le-of-lt (mul-le-mul h k) (lit< t) }
 
 pub sampled-le : (q scale : ℕ) → scale ≤ 65535 → q * scale / 128 ≤ q * 512
 sampled-le q scale h = omega (arith, mul-le-mul-left q h)
@@ -53,11 +47,3 @@ quotient-le n x w h k = omega (arith, div-mul-le-self x w, mul-le-mul-left (x / 
 pub chosen-le : (t : Bool) {a b n : ℕ} → a ≤ n → b ≤ n → cond t a b ≤ n
 chosen-le true h k = h
 chosen-le false h k = k
-
--- neither of two tests holds, and a number that is not 0
-pub or-false : (a b : Bool) → (a || b) ≡ false → (a ≡ false) × (b ≡ false)
-or-false true b e = let z : _≡_ {A = ℕ} 0 1 = cc in absurd (omega arith)
-or-false false b e = (refl, e)
-
-pub some : (n : ℕ) → eqb n 0 ≡ false → 1 ≤ n
-some n e = let h = eqb-false n 0 e in omega arith

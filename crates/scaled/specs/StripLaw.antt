@@ -13,7 +13,8 @@ use Rattle.plan.specs.declared.types.Start.{Start}
 use Rattle.plan.specs.declared.types.Scaled.{Scaled}
 use Rattle.plan.specs.Scaled.{scaledOf, scaledCapacity, slicesBad}
 use Rattle.plan.specs.Sound.{SoundScaled}
-use Rattle.scaled.specs.Number.{shift-range, chosen-le, or-false, some}
+use Rattle.signed.specs.Bound.{or-false, some}
+use Rattle.scaled.specs.Number.{shift-range, chosen-le}
 use Rattle.scaled.specs.Range.{Usable, Filled, extent-le}
 use Rattle.scaled.specs.Strip.{shiftOf, splitOf}
 

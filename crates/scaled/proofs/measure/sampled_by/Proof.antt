@@ -1,6 +1,7 @@
 -- `scaled::measure::sampled_by` meets its contract. A scale is below 65,536, which bounds the product. Assumes nothing.
 use mathlib.Core.Path.{refl}
-use Rattle.scaled.specs.Number.{fits-mul, sampled-le}
+use Rattle.signed.specs.Bound.{fits-mul}
+use Rattle.scaled.specs.Number.{sampled-le}
 use Rattle.scaled.proofs.measure.sampled_by.Statement.{statement}
 use Rattle.scaled.proofs.measure.sampled_by.Tie as tie
 
