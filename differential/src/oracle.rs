@@ -80,7 +80,14 @@ fn number<T: std::str::FromStr>(text: Option<String>) -> T {
     text.and_then(|t| t.parse().ok()).unwrap_or_else(|| usage())
 }
 
-fn main() {
+/// How cases are run, whether their banks are printed, and what is to be done.
+struct Asked {
+    settings: Settings,
+    bank: bool,
+    task: Task,
+}
+
+fn asked() -> Asked {
     let mut settings = Settings::default();
     let mut bank = false;
     let mut task = Task::Single;
@@ -117,19 +124,37 @@ fn main() {
             _ => usage(),
         }
     }
+    Asked {
+        settings,
+        bank,
+        task,
+    }
+}
 
+fn main() {
+    let asked = asked();
     // Panics are caught case by case; where they came from goes to standard error.
     set_hook(Box::new(|info| eprintln!("panic: {info}")));
     let mut out = Output::new();
+    perform(asked, &mut out);
+    out.flush();
+}
+
+fn perform(asked: Asked, out: &mut Output) {
+    let Asked {
+        settings,
+        bank,
+        task,
+    } = asked;
     match task {
         Task::Single => match read_single() {
-            Some(record) => print_plan(&record, &settings, bank, &mut out),
+            Some(record) => print_plan(&record, &settings, bank, out),
             None => out.put(&short_text()),
         },
         Task::Records(file) => {
             for (n, record) in read_records(&file).enumerate() {
                 out.put(&format!("# {n}\n"));
-                print_plan(&record, &settings, bank, &mut out);
+                print_plan(&record, &settings, bank, out);
             }
         }
         Task::Digest(file) => {
@@ -194,7 +219,6 @@ fn main() {
             Err(error) => fail(&directory, &error.to_string()),
         },
     }
-    out.flush();
 }
 
 fn fail(what: &str, why: &str) -> ! {

@@ -3,4 +3,3 @@ pub mod Coming
 pub mod Step
 pub mod Start
 pub mod Ran
-pub mod Loops

@@ -35,10 +35,6 @@ pub record RanIs (bytes : List ℕ) (opcode : ℕ) (scissor : Scissor) (mode add
   pub bank : r .bank ≡ runOf (planOf (requestOf bytes opcode scissor mode address)) buf b .bank
   pub buffer : out ≡ runOf (planOf (requestOf bytes opcode scissor mode address)) buf b .buffer
 
--- the same from a planner that has given nothing yet
-pub record RunIs (p : Planner) (buf : List ℕ) (b : Bank) (out : List ℕ) (r : Ran) : Type 0 where
-  pub is : (plan : Plan) → coming p ≡ comingOf plan → (r .end ≡ runOf plan buf b .end) × ((r .bank ≡ runOf plan buf b .bank) × (out ≡ runOf plan buf b .buffer))
-
 -- how a run ends at a planner with no room left: the end if it comes next, else 10
 abbrev pub finishBy : List Entry → List Entry → End → Counts → Bank → Ran
 finishBy [] left e n b = record { bank = bankAfter b left; end = e }

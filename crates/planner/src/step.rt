@@ -45,7 +45,7 @@ fn stop(n: Counts, bank: Bank, verdict: Verdict) -> Stepped
     }
 }
 
-pub fn course_of(r: Reached) -> Course
+fn course_of(r: Reached) -> Course
     ensures { λ c. ⌜ c ≡ courseOf r ⌝ }
 {
     match r {
