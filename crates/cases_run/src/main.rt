@@ -1,0 +1,21 @@
+// Prints the plans of document 01's cases L, A to E and G to J, from records of 61 bytes as bgplan reads them; 'stdout' is what the Rust answered.
+const CASES: u32 = 10;
+
+fn main() {
+    let path = b"cases";
+    let fd = os::open_read(path);
+    if fd < 0 {
+        os::fail(path);
+        return;
+    }
+    let mut turns: u32 = 0;
+    while turns < CASES {
+        turns = turns + 1;
+        let mut bytes = [0u8; 61];
+        let got = io::read_full(fd, &mut bytes);
+        if got < 61 {
+            return;
+        }
+        show::print_case(&bytes);
+    }
+}

@@ -1,0 +1,2 @@
+-- 64-bit FNV-1a.
+pub mod Fnv

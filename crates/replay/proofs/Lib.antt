@@ -1,0 +1,2 @@
+-- The laws of a run's outcome.
+pub mod Outcomes

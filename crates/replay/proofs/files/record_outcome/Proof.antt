@@ -1,0 +1,60 @@
+-- `replay::files::record_outcome` meets its contract: the parts that are lent are as long as the record says. Assumes nothing.
+use mathlib.Core.Path.{sym}
+use native.Mathlib.Omega.{arith}
+use Rattle.replay.proofs.Outcomes.{part, record-is}
+use borrow.Author.Needs.{needs}
+use Rattle.replay.proofs.files.record_outcome.Statement.{statement}
+use Rattle.replay.proofs.files.record_outcome.Tie as tie
+
+at-most-requires : tie.Need-at-most-requires
+at-most-requires c κs = search needs
+
+at-most-requires-2 : tie.Need-at-most-requires-2
+at-most-requires-2 c κs = search needs
+
+from-bytes-requires : tie.Need-from-bytes-requires
+from-bytes-requires c κs = search needs
+
+buffer-requires : tie.Need-buffer-requires
+buffer-requires c κs = search needs
+
+slice-aggregate-run-into : tie.Need-slice-aggregate-run-into
+slice-aggregate-run-into c =
+    let s = c .before .before .before .before .before .before in
+    let n = c .before .before .before .before .at-most in
+    sym (part (n .result) 40 _ (s .args .bytes .now) (n .ensures) (omega (arith, s .pre)))
+
+array-borrow-prefix-plan : tie.Need-array-borrow-prefix-plan
+array-borrow-prefix-plan c = search needs
+
+slice-aggregate-run-into-2 : tie.Need-slice-aggregate-run-into-2
+slice-aggregate-run-into-2 c =
+    let m = c .before .before .before .before .at-most2 in
+    let b = c .before .before .buffer in
+    sym (part (m .result) 2816 _ (b .result) (m .ensures) (omega (arith, b .ensures)))
+
+run-into-requires : tie.Need-run-into-requires
+run-into-requires c κs = search needs
+
+returns : tie.Need-returns
+returns c =
+    let s = c .before .before .before .before .before .before .before .before .before in
+    let n = c .before .before .before .before .before .before .before .at-most in
+    let m = c .before .before .before .before .before .before .at-most2 in
+    let b = c .before .before .before .before .buffer in
+    let q = c .before .before .before .before .before .from-bytes in
+    record-is (s .args .bytes .now) (b .result) (q .result) (s .args .bank) (n .result) (m .result) _ _ _ (q .ensures) (n .ensures) (m .ensures) (b .ensures) (c .before .run-into .ensures)
+
+pub record-outcome-spec : {M : Type 1} → statement M
+record-outcome-spec =
+    tie.close
+    (tie.spec
+    at-most-requires
+    at-most-requires-2
+    from-bytes-requires
+    buffer-requires
+    slice-aggregate-run-into
+    array-borrow-prefix-plan
+    slice-aggregate-run-into-2
+    run-into-requires
+    returns)

@@ -1,0 +1,2 @@
+-- What the run of a record leaves.
+pub mod Outcome

@@ -1,0 +1,54 @@
+// The two files: a bank of 136 words, and records of 64 bytes.
+ghost use mathlib.Core.Path.{_≡_};
+ghost use Prim.Native.Nat.{_≤_, min};
+ghost use lib.ListN.{length};
+ghost use Rattle.object.specs.Layout.{Held, read};
+ghost use Rattle.plan.specs.Check.{requestAt};
+ghost use Rattle.plan.specs.Whole.{planOf};
+ghost use Rattle.words.specs.Host.{bankFrom};
+ghost use Rattle.replay.specs.Outcome.{wordsIn, outcomeOf};
+use crate::outcome::Outcome;
+use crate::outcome::run_into;
+use object::field_from;
+use tile::Bank;
+
+pub(crate) fn bank_of(bytes: &[u8]) -> Bank
+    requires { ⌜ length (now bytes) ≡ 1088 ⌝ }
+    ensures { λ r. ⌜ r ≡ bankFrom (wordsIn 136 (now (bytes .entry))) ⌝ }
+{
+    let mut numbers = [0u64; 136];
+    let mut k: usize = 0;
+    while k < 136 {
+        numbers[k] = field_from(bytes, 8 * k, 8);
+        k = k + 1;
+    }
+    words::bank_from(&numbers)
+}
+
+// The number in `n` bytes, or `most` where that is less.
+fn at_most(s: &[u8], at: usize, n: usize, most: usize) -> usize
+    requires { ⌜ Held (now s) at n ⌝ }
+    ensures { λ r. ⌜ r ≡ min most (read (now (s .entry)) at n) ⌝ }
+{
+    let x = field_from(s, at, n) as usize;
+    if x < most { x } else { most }
+}
+
+// Room for every plan of the list. The promise is what lending a part needs.
+fn buffer() -> [u64; 2816]
+    ensures { λ r. ⌜ 2816 ≡ length r ⌝ }
+{
+    [0; 2816]
+}
+
+// A case, how many of the object's bytes the planner gets, and the words of its buffer.
+pub(crate) fn record_outcome(bytes: &[u8], bank: Bank) -> Outcome
+    requires { ⌜ length (now bytes) ≡ 64 ⌝ }
+    ensures { λ r. ⌜ r ≡ outcomeOf (planOf (requestAt (min 40 (read (now (bytes .entry)) 61 1)) (now (bytes .entry)))) (min 2816 (read (now (bytes .entry)) 62 2)) bank ⌝ }
+{
+    let count = at_most(bytes, 61, 1, 40);
+    let room = at_most(bytes, 62, 2, 2816);
+    let q = request::from_bytes(bytes);
+    let mut plan = buffer();
+    run_into(&bytes[..count], q, bank, &mut plan[..room])
+}

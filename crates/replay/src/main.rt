@@ -1,0 +1,62 @@
+// Runs a fixed list of records and prints of each what README.md says, to be compared with what the Rust answered.
+mod files;
+mod outcome;
+
+use files::bank_of;
+use files::record_outcome;
+use libc::STDOUT_FILENO;
+use outcome::Outcome;
+use tile::Bank;
+
+// More records than the list has.
+const RECORDS: u32 = 4096;
+
+fn number(n: u64) {
+    io::print_decimal(STDOUT_FILENO, n);
+    io::write_all(STDOUT_FILENO, b" ");
+}
+
+fn print(o: Outcome) {
+    let end = o.end;
+    let verdict = end.verdict;
+    number(object::number(verdict));
+    number(end.entries);
+    number(end.rectangles);
+    number(end.words);
+    io::print_hex(STDOUT_FILENO, o.entries, 16);
+    io::write_all(STDOUT_FILENO, b" ");
+    io::print_hex(STDOUT_FILENO, o.bank, 16);
+    io::write_all(STDOUT_FILENO, b"\n");
+}
+
+fn replay(fd: i32, bank: Bank) {
+    let mut turns: u32 = 0;
+    while turns < RECORDS {
+        turns = turns + 1;
+        let mut bytes = [0u8; 64];
+        let got = io::read_full(fd, &mut bytes);
+        if got < 64 {
+            return;
+        }
+        print(record_outcome(&bytes, bank));
+    }
+}
+
+fn main() {
+    let mut bytes = [0u8; 1088];
+    let stored = os::open_read(b"bank");
+    let got = io::read_full(stored, &mut bytes);
+    if got < 1088 {
+        os::fail(b"bank");
+        return;
+    }
+    libc::close(stored);
+    let bank = bank_of(&bytes);
+    let records = os::open_read(b"records");
+    if records < 0 {
+        os::fail(b"records");
+        return;
+    }
+    replay(records, bank);
+    libc::close(records);
+}
