@@ -1,9 +1,7 @@
 -- What the exported functions leave: refused calls, and a run whose parts keep their promises. Assumes nothing.
 use mathlib.Core.Path.{_≡_, ap, _∙_}
-use mathlib.Core.Bool.{true, false}
 use mathlib.Core.List.{List}
 use Prim.Native.Nat.{ℕ}
-use lib.Dec.{eqb}
 use lib.ListN.{length}
 use borrow.Author.Tests.{eq-eqb, ne-eqb}
 use Rattle.tile.specs.declared.bank.Bank.{Bank}
@@ -11,10 +9,8 @@ use Rattle.plan.specs.declared.types.End.{End}
 use Rattle.plan.specs.Out.{Plan}
 use Rattle.plan.specs.Whole.{planOf}
 use Rattle.plan.specs.Run.{endOf, runOf}
-use Rattle.plan.specs.Steps.{Coming}
-use Rattle.planner.specs.declared.types.Planner.{Planner}
 use Rattle.planner.specs.declared.types.Ran.{Ran}
-use Rattle.planner.specs.Coming.{coming, Fresh}
+use Rattle.planner.specs.Coming.{requestOf}
 use Rattle.planner.specs.Ran.{RanIs}
 use Rattle.words.specs.Host.{bankFrom, bankNumbers, endNumbers}
 use Rattle.request.specs.declared.types.Request.{Request}
@@ -60,8 +56,6 @@ module _ (object request end : List ℕ) where
   unfolding hostCount
   counting q e = rw (eq-eqb (length request) 7 q, eq-eqb (length end) 4 e)
 
-  pub counts : (x : Request) → ((bytes : List ℕ) → planOf (withBytes bytes x) ≡ planOf (hostRequest bytes request)) → (p : Planner) (r : End) (end′ : List ℕ) → length request ≡ 7 → length end ≡ 4
-      → Fresh object (x .opcode) (x .scissor) (x .mode) (x .address) p → r ≡ coming p .end → end′ ≡ endNumbers r → counted 0 end′ ≡ hostCount object request end
-  counts x i p r end′ q e f j k =
-      ap (counted 0) (k ∙ ap endNumbers (j ∙ ap (λ (c : Coming). c .end) (f .coming)) ∙ ap (λ (z : Plan). endNumbers (endOf z)) (i object))
-      ∙ counting q e
+  pub counts : (x : Request) → ((bytes : List ℕ) → planOf (withBytes bytes x) ≡ planOf (hostRequest bytes request)) → (r : End) (end′ : List ℕ) → length request ≡ 7 → length end ≡ 4
+      → r ≡ endOf (planOf (requestOf object (x .opcode) (x .scissor) (x .mode) (x .address))) → end′ ≡ endNumbers r → counted 0 end′ ≡ hostCount object request end
+  counts x i r end′ q e j k = ap (counted 0) (k ∙ ap endNumbers j ∙ ap (λ (z : Plan). endNumbers (endOf z)) (i object)) ∙ counting q e

@@ -59,7 +59,7 @@ pub extern "C" fn bg_count(object: &[u8], request: &[u64], end: &mut [u64]) -> u
         return 1;
     }
     let q = request::from_words(request);
-    let p = planner::fresh(object, q.opcode, q.scissor, q.mode, q.address);
-    words::end_into(&mut *end, stepping::last(p));
+    let ended = planner::count(object, q.opcode, q.scissor, q.mode, q.address);
+    words::end_into(&mut *end, ended);
     0
 }

@@ -24,6 +24,8 @@ use Rattle.passes.specs.declared.types.Moved.{Moved}
 use Rattle.passes.specs.declared.types.Moved.the-variants as moved
 use Rattle.passes.specs.declared.types.Piece.{Piece}
 use Rattle.passes.specs.declared.types.Piece.the-variants as piece
+use Rattle.passes.specs.declared.types.Due.{Due}
+use Rattle.passes.specs.declared.types.Due.the-variants as due
 use Rattle.passes.specs.declared.types.Stage.{Stage}
 use Rattle.passes.specs.declared.types.Stage.the-variants as stage
 use Rattle.passes.specs.declared.types.Place.{Place}
@@ -119,15 +121,24 @@ partsFrom p p1b p1a =
     (load1cycTile (p .scaled) p1b (splitRows (p .scaled) (p .walk .source)) (splitFrom (p .scaled) (p .walk .source) +ℤ splitWidth (p .scaled)) (pos (p .scaled .line) -ℤ splitWidth (p .scaled)) true
     >> pieceOut piece.SplitB (p .scaled) (p .walk .source) (p .rows) p1a)
 
+-- what is given before the next pass, and the walk before it
+abbrev pub dueEntry : Due → Place → Entry
+dueEntry due.Size p = Size 0 0 0 0 0
+dueEntry due.Rect p = rectOf (p .scaled) (p .walk) (p .lines)
+
+abbrev pub dueWalk : Due → Place → Walk
+dueWalk due.Size p = p .walk
+dueWalk due.Rect p = afterDraw (p .scaled) (p .walk) (drawOf (p .walk)) (p .lines) (p .next)
+
 unfoldable pub comingScaled : Stage → Place → Plan
 comingScaled stage.First p = planOut (emit (tile7 (p .scaled) (pos 0)) >> (emit (tile0 (p .scaled)) >> (emit (Size 0 0 0 0 0) >> passesOf (p .scaled) (p .walk))))
 comingScaled stage.Second p = planOut (emit (tile0 (p .scaled)) >> (emit (Size 0 0 0 0 0) >> passesOf (p .scaled) (p .walk)))
-comingScaled stage.Third p = planOut (emit (Size 0 0 0 0 0) >> passesOf (p .scaled) (p .walk))
 comingScaled (stage.Tile k) p = passFrom p (emit (tile7 (p .scaled) (p .part .destination)) >> (partOut p >> afterPart k p))
 comingScaled (stage.Image k) p = passFrom p (partOut p >> afterPart k p)
 comingScaled (stage.Load k) p = passFrom p (loadRows (p .scaled) (p .part .pointer) (p .part .rows) (p .part .width) >> afterPart k p)
 comingScaled stage.Last p = passFrom p (emit (tile7 (p .scaled) (pos 0)) >> advance (p .scaled) (p .walk .source) (p .rows))
-comingScaled stage.Rect p = planOut (drawn (p .scaled) (p .walk) (p .lines) (p .next))
+comingScaled (stage.Pass due.Size) p = planOut (emit (Size 0 0 0 0 0) >> passesOf (p .scaled) (p .walk))
+comingScaled (stage.Pass due.Rect) p = planOut (drawn (p .scaled) (p .walk) (p .lines) (p .next))
 
 abbrev pub comingReached : Reached → Plan
 comingReached (reached.At s p) = comingScaled s p

@@ -22,6 +22,7 @@ use Rattle.plan.specs.Scaled.{tile7, loadPart, load1cycTile, back, fromTop, spl
 use Rattle.passes.specs.declared.types.Part.{Part}
 use Rattle.passes.specs.declared.types.Piece.{Piece}
 use Rattle.passes.specs.declared.types.Piece.the-variants as piece
+use Rattle.passes.specs.declared.types.Due.the-variants as due
 use Rattle.passes.specs.declared.types.Stage.the-variants as stage
 use Rattle.passes.specs.declared.types.Place.{Place}
 use Rattle.passes.specs.declared.types.Reached.{Reached}
@@ -89,7 +90,7 @@ next-sound p next h l =
 
 -- the move after the loads, and the rectangle
 module _ (p : Place) (h : SoundPass p) where
-  pub moved-to : (next : Source) → yield next ≡ advance (p .scaled) (p .walk .source) (p .rows) → Reaches (passFrom p (afterPart piece.Rest p)) (1 + leftPass p) (reached.At stage.Rect (withNext p next))
+  pub moved-to : (next : Source) → yield next ≡ advance (p .scaled) (p .walk .source) (p .rows) → Reaches (passFrom p (afterPart piece.Rest p)) (1 + leftPass p) (reached.At (stage.Pass due.Rect) (withNext p next))
   unfolding comingScaled pieceOut
   moved-to next e =
       record {
@@ -103,7 +104,7 @@ module _ (p : Place) (h : SoundPass p) where
   moved-refused e = ended-is p _ _ (sym e)
 
   pub on-to : (pointer : ℕ) (bytes : ℤ) → yield pointer ≡ sourceAddress (p .walk .source .pointer) bytes → bytes ≡ pos (p .scaled .stride) *ℤ p .rows
-      → Reaches (passFrom p (afterPart piece.Whole p)) (1 + leftPass p) (reached.At stage.Rect (withNext p (record { pointer = pointer; remain = p .walk .source .remain -ℤ p .rows })))
+      → Reaches (passFrom p (afterPart piece.Whole p)) (1 + leftPass p) (reached.At (stage.Pass due.Rect) (withNext p (record { pointer = pointer; remain = p .walk .source .remain -ℤ p .rows })))
   unfolding comingScaled pieceOut wholeOut
   on-to pointer bytes e b =
       record {

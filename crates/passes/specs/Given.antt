@@ -32,14 +32,16 @@ use Rattle.tile.specs.Laws.{rows-in}
 use Rattle.plan.specs.Scaled.{sizeOf, fieldOf, lrsOf, lrtOf, tile7, loadPart, loadRows, rectOf, advance, drawOf, leftAfter, afterDraw, firstPass, passes, scaledPlan}
 use Rattle.passes.specs.declared.types.Piece.{Piece}
 use Rattle.passes.specs.declared.types.Piece.the-variants as piece
+use Rattle.passes.specs.declared.types.Due.{Due}
+use Rattle.passes.specs.declared.types.Due.the-variants as due
 use Rattle.passes.specs.declared.types.Stage.the-variants as stage
 use Rattle.passes.specs.declared.types.Place.{Place}
 use Rattle.passes.specs.declared.types.Reached.{Reached}
 use Rattle.passes.specs.declared.types.Reached.the-variants as reached
 use Rattle.passes.specs.declared.types.ScaledNext.the-variants as next
-use Rattle.passes.specs.Coming.{passesOf, pieceOut, drawn, passFrom, tile0, imageOf, partOut, afterPart, comingScaled}
+use Rattle.passes.specs.Coming.{passesOf, pieceOut, drawn, passFrom, tile0, imageOf, partOut, afterPart, dueEntry, dueWalk, comingScaled}
 use Rattle.passes.specs.Loads.{emit-first, emit-plan, then-assoc, after-yield, after-refuse}
-use Rattle.passes.specs.Sound.{SoundWalk, SoundPass, SoundPiece, SoundRect, SoundStart, ClipIn, Reaches, Gave, leftAt, leftReached, leftPass, afterPiece}
+use Rattle.passes.specs.Sound.{SoundWalk, SoundPass, SoundPiece, SoundRect, SoundStart, ClipIn, soundAt, Reaches, Gave, leftAt, leftReached, leftPass, afterPiece}
 use Rattle.passes.specs.Enter.{ended-as}
 
 -- the rows and the line of each entry are few
@@ -100,13 +102,13 @@ module _ (p : Place) where
   unfolding comingScaled
   give-first e i h = (rw i (emit-plan (tile7 (p .scaled) (pos 0)) (emit (tile0 (p .scaled)) >> (emit (Size 0 0 0 0 0) >> passesOf (p .scaled) (p .walk)))), (h, (omega arith, rw i (tile-in _ _ _ _ _ _ _ _ _ _))))
 
-  pub give-second : (e : Entry) → e ≡ tile0 (p .scaled) → SoundStart p → Gave (comingScaled stage.Second p) (leftAt stage.Second p) (next.Entry e (reached.At stage.Third p))
+  pub give-second : (e : Entry) → e ≡ tile0 (p .scaled) → SoundStart p → Gave (comingScaled stage.Second p) (leftAt stage.Second p) (next.Entry e (reached.At (stage.Pass due.Size) p))
   unfolding comingScaled
   give-second e i h = (rw i (emit-plan (tile0 (p .scaled)) (emit (Size 0 0 0 0 0) >> passesOf (p .scaled) (p .walk))), (h, (omega arith, rw i (tile-in _ _ _ _ _ _ _ _ _ _))))
 
-  pub give-third : (r : Reached) → Reaches (planOut (passesOf (p .scaled) (p .walk))) (14 * up (p .walk .«frame_remain»)) r → Gave (comingScaled stage.Third p) (leftAt stage.Third p) (next.Entry (Size 0 0 0 0 0) r)
+  give-size : (r : Reached) → Reaches (planOut (passesOf (p .scaled) (p .walk))) (14 * up (p .walk .«frame_remain»)) r → Gave (comingScaled (stage.Pass due.Size) p) (leftAt (stage.Pass due.Size) p) (next.Entry (Size 0 0 0 0 0) r)
   unfolding comingScaled
-  give-third r g = let l = g .left in (emit-plan (Size 0 0 0 0 0) (passesOf (p .scaled) (p .walk)) ∙ ap (cons (Size 0 0 0 0 0)) (sym (g .is)), (g .sound, (omega arith, plain-in)))
+  give-size r g = let l = g .left in (emit-plan (Size 0 0 0 0 0) (passesOf (p .scaled) (p .walk)) ∙ ap (cons (Size 0 0 0 0 0)) (sym (g .is)), (g .sound, (omega arith, plain-in)))
 
   module _ (k : Piece) where
     pub give-tile : (e : Entry) → e ≡ tile7 (p .scaled) (p .part .destination) → SoundPiece p → Gave (comingScaled (stage.Tile k) p) (leftAt (stage.Tile k) p) (next.Entry e (reached.At (stage.Image k) p))
@@ -132,8 +134,8 @@ module _ (p : Place) where
   unfolding comingScaled pieceOut
   give-last e r i g = let l = g .left in (ap (λ (x : Entry). passFrom p (emit x >> advance (p .scaled) (p .walk .source) (p .rows))) (sym i) ∙ pass-first p e (advance (p .scaled) (p .walk .source) (p .rows)) ∙ ap (cons e) (sym (g .is)), (g .sound, (omega arith, rw i (tile-in _ _ _ _ _ _ _ _ _ _))))
 
-  pub give-rect : (e : Entry) (n : Walk) (r : Reached) → e ≡ rectOf (p .scaled) (p .walk) (p .lines) → n ≡ afterDraw (p .scaled) (p .walk) (drawOf (p .walk)) (p .lines) (p .next) → SoundRect p
-      → Reaches (planOut (passesOf (p .scaled) n)) (14 * up (n .«frame_remain»)) r → Gave (comingScaled stage.Rect p) (leftAt stage.Rect p) (next.Entry e r)
+  give-rect : (e : Entry) (n : Walk) (r : Reached) → e ≡ rectOf (p .scaled) (p .walk) (p .lines) → n ≡ afterDraw (p .scaled) (p .walk) (drawOf (p .walk)) (p .lines) (p .next) → SoundRect p
+      → Reaches (planOut (passesOf (p .scaled) n)) (14 * up (n .«frame_remain»)) r → Gave (comingScaled (stage.Pass due.Rect) p) (leftAt (stage.Pass due.Rect) p) (next.Entry e r)
   unfolding comingScaled drawn
   give-rect e n r i j h g =
       let l = g .left in
@@ -149,6 +151,17 @@ module _ (p : Place) where
 
       less : (l : ℕ) → up (n .«frame_remain») ≡ up (leftAfter (p .walk) (drawOf (p .walk))) → up (leftAfter (p .walk) (drawOf (p .walk))) ≤ up (p .walk .«frame_remain») - 1 → l ≤ 14 * up (n .«frame_remain») → suc l ≤ 1 + leftPass p
       less l a b c = omega arith
+
+  -- the walk before the next pass is sound, where lines are left
+  pub due-sound : (d : Due) → soundAt (stage.Pass d) p → SoundScaled (p .scaled) × (pos 1 ≤ℤ dueWalk d p .«frame_remain» → SoundWalk (dueWalk d p))
+  due-sound due.Size h = (h .scaled, λ _. h .walk)
+  due-sound due.Rect h = (h .pass .scaled, h .next)
+
+  -- the size or the rectangle, and the pass after it
+  pub give-pass : (d : Due) (e : Entry) (n : Walk) (r : Reached) → e ≡ dueEntry d p → n ≡ dueWalk d p → soundAt (stage.Pass d) p → Reaches (planOut (passesOf (p .scaled) n)) (14 * up (n .«frame_remain»)) r
+      → Gave (comingScaled (stage.Pass d) p) (leftAt (stage.Pass d) p) (next.Entry e r)
+  give-pass due.Size e n r i j h g = rw i (give-size r (rw j at g))
+  give-pass due.Rect e n r i j h g = give-rect e n r i j h g
 
 three : (a b c : Entry) (o : Out (Unit {0})) → (emit a >> emit b >> emit c >> o) ≡ (emit a >> (emit b >> (emit c >> o)))
 three a b c (go es u) = refl

@@ -23,6 +23,7 @@ use Rattle.plan.specs.Scaled.{drawOf, leftAfter, linesOf, rowsOf, afterDraw}
 use Rattle.passes.specs.declared.types.Part.{Part}
 use Rattle.passes.specs.declared.types.Piece.{Piece}
 use Rattle.passes.specs.declared.types.Piece.the-variants as piece
+use Rattle.passes.specs.declared.types.Due.the-variants as due
 use Rattle.passes.specs.declared.types.Stage.{Stage}
 use Rattle.passes.specs.declared.types.Stage.the-variants as stage
 use Rattle.passes.specs.declared.types.Place.{Place}
@@ -105,12 +106,12 @@ pub record SoundStart (p : Place) : Type 0 where
 abbrev pub soundAt : Stage → Place → Type 0
 soundAt stage.First p = SoundStart p
 soundAt stage.Second p = SoundStart p
-soundAt stage.Third p = SoundStart p
 soundAt (stage.Tile k) p = SoundPiece p
 soundAt (stage.Image k) p = SoundPiece p
 soundAt (stage.Load k) p = SoundPiece p
 soundAt stage.Last p = SoundPass p
-soundAt stage.Rect p = SoundRect p
+soundAt (stage.Pass due.Size) p = SoundStart p
+soundAt (stage.Pass due.Rect) p = SoundRect p
 
 abbrev pub soundReached : Reached → Type 0
 soundReached (reached.At s p) = soundAt s p
@@ -132,12 +133,12 @@ leftPass p = 14 * (up (p .walk .«frame_remain») - 1)
 abbrev pub leftAt : Stage → Place → ℕ
 leftAt stage.First p = 3 + 14 * up (p .walk .«frame_remain»)
 leftAt stage.Second p = 2 + 14 * up (p .walk .«frame_remain»)
-leftAt stage.Third p = 1 + 14 * up (p .walk .«frame_remain»)
 leftAt (stage.Tile k) p = 3 + afterPiece k + leftPass p
 leftAt (stage.Image k) p = 2 + afterPiece k + leftPass p
 leftAt (stage.Load k) p = 1 + afterPiece k + leftPass p
 leftAt stage.Last p = 2 + leftPass p
-leftAt stage.Rect p = 1 + leftPass p
+leftAt (stage.Pass due.Size) p = 1 + 14 * up (p .walk .«frame_remain»)
+leftAt (stage.Pass due.Rect) p = 1 + leftPass p
 
 abbrev pub leftReached : Reached → ℕ
 leftReached (reached.At s p) = leftAt s p

@@ -8,6 +8,7 @@ mod walk;
 
 pub use step::scaled_next;
 pub use step::scaled_start;
+pub use types::Due;
 pub use types::Loaded;
 pub use types::Moved;
 pub use types::Part;

@@ -15,6 +15,7 @@ use crate::rows::sum;
 use crate::rows::times;
 use crate::sums::advance;
 use crate::sums::source_address;
+use crate::types::Due;
 use crate::types::Moved;
 use crate::types::Part;
 use crate::types::Piece;
@@ -105,7 +106,7 @@ pub fn moved(p: Place) -> Reached
         Moved::To(next) => {
             let mut q = p;
             q.next = next;
-            Reached::At(Stage::Rect, q)
+            Reached::At(Stage::Pass(Due::Rect), q)
         }
     }
 }
@@ -126,7 +127,7 @@ fn moved_on(p: Place) -> Reached
             let next = Source { pointer, remain };
             let mut q = p;
             q.next = next;
-            Reached::At(Stage::Rect, q)
+            Reached::At(Stage::Pass(Due::Rect), q)
         }
     }
 }

@@ -9,12 +9,13 @@ ghost use Rattle.object.specs.Range.{Within};
 ghost use Rattle.plan.specs.Out.{planOut};
 ghost use Rattle.plan.specs.Sound.{SoundScaled, SoundFirst};
 ghost use Rattle.plan.specs.Scaled.{tile7 as tile7Of, lrsOf, lrtOf, loadRows, rectOf, scaledPlan};
-ghost use Rattle.passes.specs.Coming.{tile0 as tile0Of, imageOf, comingScaled};
+ghost use Rattle.passes.specs.Coming.{tile0 as tile0Of, imageOf, dueEntry, dueWalk, comingScaled};
 ghost use Rattle.passes.specs.Sound.{SoundPass, SoundPart, ClipIn, soundAt, leftAt, Reaches, Gave, loadedOut};
 use crate::load::after_part;
 use crate::load::moved;
 use crate::rows::less;
 use crate::sums::source_address;
+use crate::types::Due;
 use crate::types::Loaded;
 use crate::types::Part;
 use crate::types::Piece;
@@ -186,6 +187,42 @@ fn load_step(k: Piece, p: Place) -> ScaledNext
     }
 }
 
+// What is given before the next pass.
+fn due_entry(due: Due, p: Place) -> Entry
+    requires { ⌜ soundAt (Stage.Pass due) p ⌝ }
+    ensures { λ r. ⌜ r ≡ dueEntry due p ⌝ }
+{
+    match due {
+        Due::Size => Entry::Size {
+            index: 0,
+            uls: 0,
+            ult: 0,
+            lrs: 0,
+            lrt: 0,
+        },
+        Due::Rect => rect(p),
+    }
+}
+
+// The walk before the next pass: after a rectangle, the one that its pass leaves.
+fn due_walk(due: Due, p: Place) -> Walk
+    requires { ⌜ soundAt (Stage.Pass due) p ⌝ }
+    ensures { λ r. ⌜ r ≡ dueWalk due p ⌝ }
+{
+    match due {
+        Due::Size => p.walk,
+        Due::Rect => drawn(p),
+    }
+}
+
+// The entry before a pass, and that pass: the one call of `next_pass`, so that the compiler inlines it.
+fn pass_step(due: Due, p: Place) -> ScaledNext
+    requires { ⌜ soundAt (Stage.Pass due) p ⌝ }
+    ensures { λ r. ⌜ Gave (comingScaled (Stage.Pass due) p) (leftAt (Stage.Pass due) p) r ⌝ }
+{
+    ScaledNext::Entry(due_entry(due, p), next_pass(p.scaled, due_walk(due, p)))
+}
+
 // What comes next of a scaled plan.
 pub fn scaled_next(stage: Stage, p: Place) -> ScaledNext
     requires { ⌜ soundAt stage p ⌝ }
@@ -193,17 +230,7 @@ pub fn scaled_next(stage: Stage, p: Place) -> ScaledNext
 {
     match stage {
         Stage::First => ScaledNext::Entry(tile7(p.scaled, 0), Reached::At(Stage::Second, p)),
-        Stage::Second => ScaledNext::Entry(tile0(p.scaled), Reached::At(Stage::Third, p)),
-        Stage::Third => {
-            let size = Entry::Size {
-                index: 0,
-                uls: 0,
-                ult: 0,
-                lrs: 0,
-                lrt: 0,
-            };
-            ScaledNext::Entry(size, next_pass(p.scaled, p.walk))
-        }
+        Stage::Second => ScaledNext::Entry(tile0(p.scaled), Reached::At(Stage::Pass(Due::Size), p)),
         Stage::Tile(k) => {
             let q = p.part;
             ScaledNext::Entry(
@@ -217,7 +244,7 @@ pub fn scaled_next(stage: Stage, p: Place) -> ScaledNext
         }
         Stage::Load(k) => load_step(k, p),
         Stage::Last => ScaledNext::Entry(tile7(p.scaled, 0), moved(p)),
-        Stage::Rect => ScaledNext::Entry(rect(p), next_pass(p.scaled, drawn(p))),
+        Stage::Pass(due) => pass_step(due, p),
     }
 }
 

@@ -41,16 +41,21 @@ pub enum Piece {
     Rest,
 }
 
+// What is given before the next pass: tile 0's size, once, or a pass's rectangle.
+pub enum Due {
+    Size,
+    Rect,
+}
+
 // Which entry comes next.
 pub enum Stage {
     First,
     Second,
-    Third,
     Tile(Piece),
     Image(Piece),
     Load(Piece),
     Last,
-    Rect,
+    Pass(Due),
 }
 
 // A pass under way: the walk before it, its rows and lines, the part that is given, the pointer of the last row's first part, and where the next pass starts.

@@ -6,14 +6,15 @@ use Prim.Native.Nat.{ℕ, _+_, _^_, _≤_}
 use Rattle.object.specs.declared.types.ObjBg.{ObjBg}
 use Rattle.object.specs.declared.types.Scissor.{Scissor}
 use Rattle.object.specs.declared.types.Verdict.{Verdict}
+use Rattle.object.specs.declared.types.Verdict.the-variants as verdict
 use Rattle.tile.specs.declared.bank.Bank.{Bank}
 use Rattle.plan.specs.declared.types.Entry.{Entry}
+use Rattle.plan.specs.declared.types.Answer.{Answer}
 use Rattle.plan.specs.declared.types.Answer.the-variants as answer
 use Rattle.plan.specs.Request.{Request}
 use Rattle.plan.specs.Out.{Plan, planOut}
 use Rattle.plan.specs.Next.{ended}
 use Rattle.plan.specs.Whole.{copyOut, scaledOut, planOf}
-use Rattle.plan.specs.Run.{bankStep}
 use Rattle.plan.specs.Steps.{Coming, comingOf, nextOf, answerOf, bankNext}
 use Rattle.copy.specs.Coming.{comingCopy}
 use Rattle.copy.specs.Walk.{SoundPlace}
@@ -27,6 +28,9 @@ use Rattle.words.specs.Counts.{Countable, zeroCounts, countedOf, countedAll, en
 use Rattle.planner.specs.declared.types.Course.{Course}
 use Rattle.planner.specs.declared.types.Course.the-variants as course
 use Rattle.planner.specs.declared.types.Planner.{Planner}
+use Rattle.planner.specs.declared.types.Given.{Given}
+use Rattle.planner.specs.declared.types.Given.the-variants as given
+use Rattle.planner.specs.declared.types.Step.{Step}
 use Rattle.planner.specs.declared.types.Stepped.{Stepped}
 
 -- the rest of the plan
@@ -64,7 +68,31 @@ abbrev pub countsNext : List Entry → Counts → Counts
 countsNext [] n = n
 countsNext (e ∷ es) n = countedOf n e
 
--- a step answers the first of what is to come, leaves the rest, and the bank is as after it
+-- what a step gives is an answer, and the sizes that a refused load has set
+abbrev pub answerIn : Given → Answer
+answerIn (given.Entry e) = answer.Entry e
+answerIn (given.Refused s x) = answer.End x
+answerIn (given.End x) = answer.End x
+
+abbrev pub leftIn : Given → List Entry
+leftIn (given.Entry e) = []
+leftIn (given.Refused s x) = s ∷ []
+leftIn (given.End x) = []
+
+-- what the refused load of a plan has set shows at its end
+abbrev pub leftNext : List Entry → List Entry → List Entry
+leftNext [] left = left
+leftNext (e ∷ es) left = []
+
+-- a step gives the first of what is to come, and leaves the rest
+pub record StepGives (p : Planner) (r : Step) : Type 0 where
+  pub answer : answerIn (r .given) ≡ answerOf (coming p .entries) (coming p .end)
+  pub left : leftIn (r .given) ≡ leftNext (coming p .entries) (coming p .left)
+  pub rest : coming (r .planner) ≡ nextOf (coming p .entries) (coming p .left) (coming p .end)
+  pub counts : r .planner .counts ≡ countsNext (coming p .entries) (p .counts)
+  pub sound : Sound (r .planner)
+
+-- the same with a bank, which is as after it
 pub record StepIs (p : Planner) (b : Bank) (r : Stepped) : Type 0 where
   pub answer : r .answer ≡ answerOf (coming p .entries) (coming p .end)
   pub rest : coming (r .planner) ≡ nextOf (coming p .entries) (coming p .left) (coming p .end)
@@ -73,11 +101,14 @@ pub record StepIs (p : Planner) (b : Bank) (r : Stepped) : Type 0 where
   pub sound : Sound (r .planner)
 
 -- an entry is given, or the end
-abbrev pub giveOf : Course → Counts → Bank → Entry → Stepped
-giveOf w n b e = record { planner = record { course = w; counts = countedOf n e }; bank = bankStep b e; answer = answer.Entry e }
+abbrev pub giveOf : Course → Counts → Entry → Step
+giveOf w n e = record { planner = record { course = w; counts = countedOf n e }; given = given.Entry e }
 
-abbrev pub stopOf : Counts → Bank → Verdict → Stepped
-stopOf n b v = record { planner = record { course = course.Over v; counts = n }; bank = b; answer = answer.End (endWith n v) }
+abbrev pub stopOf : Counts → Verdict → Step
+stopOf n v = record { planner = record { course = course.Over v; counts = n }; given = given.End (endWith n v) }
+
+abbrev pub refuseOf : Counts → Entry → Step
+refuseOf n s = record { planner = record { course = course.Over verdict.Address; counts = n }; given = given.Refused s (endWith n verdict.Address) }
 
 abbrev pub courseOf : Reached → Course
 courseOf (reached.At s p) = course.Scaled s p

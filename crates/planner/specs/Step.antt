@@ -6,6 +6,7 @@ use mathlib.Core.List.{List, [], _∷_}
 use Prim.Native.Nat.{ℕ, suc, _+_, _^_, _≤_, _<_}
 use native.Mathlib.Omega.{arith}
 use lib.Dec.{ltb}
+use lib.ListN.{length, drop}
 use Rattle.object.specs.declared.types.Verdict.{Verdict}
 use Rattle.object.specs.declared.types.Verdict.the-variants as verdict
 use Rattle.tile.specs.declared.bank.Bank.{Bank}
@@ -16,6 +17,7 @@ use Rattle.tile.specs.Laws.{rows-in}
 use Rattle.plan.specs.declared.types.Entry.{Entry}
 use Rattle.plan.specs.declared.types.Entry.the-variants as entry
 use Rattle.plan.specs.declared.types.Answer.the-variants as answer
+use Rattle.plan.specs.declared.types.End.{End}
 use Rattle.plan.specs.Out.{Plan}
 use Rattle.plan.specs.Next.{Next, cons, ended, Follows}
 use Rattle.plan.specs.Next.Next.{give, over}
@@ -43,8 +45,10 @@ use Rattle.words.specs.Counts.{Countable, countedOf, countedAll, endWith, count
 use Rattle.planner.specs.declared.types.Course.{Course}
 use Rattle.planner.specs.declared.types.Course.the-variants as course
 use Rattle.planner.specs.declared.types.Planner.{Planner}
-use Rattle.planner.specs.declared.types.Stepped.{Stepped}
-use Rattle.planner.specs.Coming.{comingCourse, comingFrom, coming, soundCourse, leftCourse, Sound, countsNext, StepIs, giveOf, stopOf, courseOf}
+use Rattle.planner.specs.declared.types.Given.{Given}
+use Rattle.planner.specs.declared.types.Given.the-variants as given
+use Rattle.planner.specs.declared.types.Step.{Step}
+use Rattle.planner.specs.Coming.{comingCourse, comingFrom, coming, soundCourse, leftCourse, Sound, countsNext, answerIn, leftIn, leftNext, StepGives, StepIs, giveOf, stopOf, refuseOf, courseOf}
 
 abbrev pub plannerAt : Course → Counts → Planner
 plannerAt w n = record { course = w; counts = n }
@@ -54,57 +58,63 @@ given-answer : (p : Plan) (n : Counts) (e : Entry) (q : Plan) → p ≡ cons e q
 given-answer p n e q i = rw i
 
 -- an entry is given
-module _ (w w′ : Course) (n : Counts) (b : Bank) (e : Entry) (i : comingCourse w ≡ cons e (comingCourse w′)) where
+module _ (w w′ : Course) (n : Counts) (e : Entry) (i : comingCourse w ≡ cons e (comingCourse w′)) where
+  given-left : _≡_ {A = List Entry} [] (leftNext (comingFrom (comingCourse w) n .entries) (comingFrom (comingCourse w) n .left))
+  given-left = rw i
+
   given-rest : comingFrom (comingCourse w′) (countedOf n e) ≡ nextOf (comingFrom (comingCourse w) n .entries) (comingFrom (comingCourse w) n .left) (comingFrom (comingCourse w) n .end)
   unfolding countedAll
   given-rest = rw i
 
-  given-bank : bankStep b e ≡ bankNext (comingFrom (comingCourse w) n .entries) (comingFrom (comingCourse w) n .left) b
-  given-bank = rw i
-
   given-counts : countedOf n e ≡ countsNext (comingFrom (comingCourse w) n .entries) n
   given-counts = rw i
 
-  pub step-given : EntryIn e → soundCourse w′ → suc (leftCourse w′) ≤ leftCourse w → Sound (plannerAt w n) → StepIs (plannerAt w n) b (giveOf w′ n b e)
+  pub step-given : EntryIn e → soundCourse w′ → suc (leftCourse w′) ≤ leftCourse w → Sound (plannerAt w n) → StepGives (plannerAt w n) (giveOf w′ n e)
   unfolding coming
   step-given a s l h =
       let f = h .few in
       let k = counted-entries n e in
       record {
         answer = sym (given-answer (comingCourse w) n e (comingCourse w′) i);
+        left = given-left;
         rest = given-rest;
-        bank = given-bank;
         counts = given-counts;
         sound = record { course = s; counts = counted-countable n e (h .counts) (omega arith) (a .line); few = omega arith };
       }
 
 -- the end
-module _ (w : Course) (n : Counts) (b : Bank) (left : List Entry) (v : Verdict) (i : comingCourse w ≡ ended left v) where
+module _ (w : Course) (n : Counts) (left : List Entry) (v : Verdict) (i : comingCourse w ≡ ended left v) where
   stopped-answer : answer.End (endWith n v) ≡ answerOf (comingFrom (comingCourse w) n .entries) (comingFrom (comingCourse w) n .end)
   unfolding countedAll
   stopped-answer = rw i
+
+  stopped-left : left ≡ leftNext (comingFrom (comingCourse w) n .entries) (comingFrom (comingCourse w) n .left)
+  stopped-left = rw i
 
   stopped-rest : comingFrom (ended [] v) n ≡ nextOf (comingFrom (comingCourse w) n .entries) (comingFrom (comingCourse w) n .left) (comingFrom (comingCourse w) n .end)
   unfolding countedAll
   stopped-rest = rw i
 
-  stopped-bank : bankAfter b left ≡ bankNext (comingFrom (comingCourse w) n .entries) (comingFrom (comingCourse w) n .left) b
-  stopped-bank = rw i
-
   stopped-counts : n ≡ countsNext (comingFrom (comingCourse w) n .entries) n
   stopped-counts = rw i
 
-  pub step-stopped : (b′ : Bank) → b′ ≡ bankAfter b left → Sound (plannerAt w n) → StepIs (plannerAt w n) b (stopOf n b′ v)
+  step-ended : (g : Given) → answerIn g ≡ answer.End (endWith n v) → leftIn g ≡ left → Sound (plannerAt w n) → StepGives (plannerAt w n) (record { planner = plannerAt (course.Over v) n; given = g })
   unfolding coming
-  step-stopped b′ j h =
+  step-ended g a l h =
       let f = h .few in
       record {
-        answer = stopped-answer;
+        answer = a ∙ stopped-answer;
+        left = l ∙ stopped-left;
         rest = stopped-rest;
-        bank = j ∙ stopped-bank;
         counts = stopped-counts;
         sound = record { course = tt; counts = h .counts; few = omega arith };
       }
+
+pub step-stopped : (w : Course) (n : Counts) (v : Verdict) → comingCourse w ≡ ended [] v → Sound (plannerAt w n) → StepGives (plannerAt w n) (stopOf n v)
+step-stopped w n v i h = step-ended w n [] v i (given.End (endWith n v)) refl refl h
+
+pub step-refused : (w : Course) (n : Counts) (s : Entry) → comingCourse w ≡ ended (s ∷ []) verdict.Address → Sound (plannerAt w n) → StepGives (plannerAt w n) (refuseOf n s)
+step-refused w n s i h = step-ended w n (s ∷ []) verdict.Address i (given.Refused s (endWith n verdict.Address)) refl refl h
 
 -- ---- copy
 
@@ -175,7 +185,60 @@ reached-left : (r : Reached) (n : ℕ) → suc (leftReached r) ≤ n → suc (le
 reached-left (reached.At s p) n h = h
 reached-left (reached.Ended v) n h = h
 
-pub step-scaled : (s : scaled.Stage) (p : scaled-place.Place) (n : Counts) (b : Bank) (e : Entry) (r : Reached) → Gave (comingScaled s p) (leftAt s p) (gave.Entry e r) → Sound (plannerAt (course.Scaled s p) n)
-    → StepIs (plannerAt (course.Scaled s p) n) b (giveOf (courseOf r) n b e)
-step-scaled s p n b e r g h =
-    step-given (course.Scaled s p) (courseOf r) n b e (g .0 ∙ ap (cons e) (sym (reached-is r))) (g .1 .1 .1) (reached-sound r (g .1 .0)) (reached-left r (leftAt s p) (g .1 .1 .0)) h
+pub step-scaled : (s : scaled.Stage) (p : scaled-place.Place) (n : Counts) (e : Entry) (r : Reached) → Gave (comingScaled s p) (leftAt s p) (gave.Entry e r) → Sound (plannerAt (course.Scaled s p) n)
+    → StepGives (plannerAt (course.Scaled s p) n) (giveOf (courseOf r) n e)
+step-scaled s p n e r g h =
+    step-given (course.Scaled s p) (courseOf r) n e (g .0 ∙ ap (cons e) (sym (reached-is r))) (g .1 .1 .1) (reached-sound r (g .1 .0)) (reached-left r (leftAt s p) (g .1 .1 .0)) h
+
+-- ---- what a step gives says of what is to come
+
+pub came : (es : List Entry) (x : End) (e : Entry) → answerOf es x ≡ answer.Entry e → es ≡ e ∷ drop 1 es
+came [] x e i = let z : _≡_ {A = ℕ} 0 1 = cc in absurd (omega arith)
+came (y ∷ es) x e i = let k : y ≡ e = cc in ap (λ (d : Entry). d ∷ es) k
+
+pub ended-there : (es : List Entry) (x e : End) → answerOf es x ≡ answer.End e → (es ≡ []) × (e ≡ x)
+ended-there [] x e i = let k : x ≡ e = cc in (refl, sym k)
+ended-there (y ∷ es) x e i = let z : _≡_ {A = ℕ} 0 1 = cc in absurd (omega arith)
+
+module _ (p : Planner) (s : Step) (i : StepGives p s) where
+  pub gave-entry : (e : Entry) → s .given ≡ given.Entry e → coming p .entries ≡ e ∷ drop 1 (coming p .entries)
+  gave-entry e g = came (coming p .entries) (coming p .end) e (sym (i .answer) ∙ ap answerIn g)
+
+  -- the planner has the rest to come
+  pub gave-rest : (e : Entry) → s .given ≡ given.Entry e → coming (s .planner) ≡ record { entries = drop 1 (coming p .entries); left = coming p .left; end = coming p .end }
+  gave-rest e g = i .rest ∙ ap (λ (es : List Entry). nextOf es (coming p .left) (coming p .end)) (gave-entry e g)
+
+  -- one entry less is to come
+  pub gave-fewer : (e : Entry) → s .given ≡ given.Entry e → length (coming (s .planner) .entries) < length (coming p .entries)
+  gave-fewer e g = omega (arith, ap (λ (c : Coming). length (c .entries)) (gave-rest e g), ap length (gave-entry e g), longer e (drop 1 (coming p .entries)))
+    where
+      longer : (e : Entry) (es : List Entry) → length (e ∷ es) ≡ suc (length es)
+      longer e es = refl
+
+  -- the end: no entries, the end itself, and the sizes that are set
+  pub gave-end : (g : Given) → s .given ≡ g → (x : End) → answerIn g ≡ answer.End x → (coming p .entries ≡ []) × ((x ≡ coming p .end) × (coming p .left ≡ leftIn g))
+  gave-end g k x a =
+      let t = ended-there (coming p .entries) (coming p .end) x (sym (i .answer) ∙ ap answerIn k ∙ a) in
+      (t .0, (t .1, ap (λ (es : List Entry). leftNext es (coming p .left)) (sym (t .0)) ∙ sym (i .left) ∙ ap leftIn k))
+
+  -- a step with a bank
+  pub with-entry : (b : Bank) (e : Entry) → s .given ≡ given.Entry e → StepIs p b (record { planner = s .planner; bank = bankStep b e; answer = answer.Entry e })
+  with-entry b e g =
+      record {
+        answer = sym (ap answerIn g) ∙ i .answer;
+        rest = i .rest;
+        bank = ap (λ (es : List Entry). bankNext es (coming p .left) b) (sym (gave-entry e g));
+        counts = i .counts;
+        sound = i .sound;
+      }
+
+  pub with-end : (b : Bank) (g : Given) → s .given ≡ g → (x : End) → answerIn g ≡ answer.End x → StepIs p b (record { planner = s .planner; bank = bankAfter b (leftIn g); answer = answer.End x })
+  with-end b g k x a =
+      let t = gave-end g k x a in
+      record {
+        answer = sym a ∙ sym (ap answerIn k) ∙ i .answer;
+        rest = i .rest;
+        bank = ap (bankAfter b) (sym (t .1 .1)) ∙ ap (λ (es : List Entry). bankNext es (coming p .left) b) (sym (t .0));
+        counts = i .counts;
+        sound = i .sound;
+      }

@@ -4,9 +4,12 @@ mod start;
 mod step;
 mod types;
 
+pub use buffer::count;
 pub use buffer::run;
 pub use start::fresh;
 pub use types::Course;
+pub use types::Given;
 pub use types::Planner;
 pub use types::Ran;
+pub use types::Step;
 pub use types::Stepped;

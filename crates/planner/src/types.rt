@@ -2,6 +2,7 @@
 use object::Verdict;
 use plan::Answer;
 use plan::End;
+use plan::Entry;
 use tile::Bank;
 use words::Counts;
 
@@ -18,6 +19,19 @@ pub struct Planner {
     pub(crate) counts: Counts,
 }
 
+// What a step gives: an entry, or the end. A load that is refused has set its tile's size, which is no entry, before the end.
+pub enum Given {
+    Entry(Entry),
+    Refused(Entry, End),
+    End(End),
+}
+
+pub struct Step {
+    pub planner: Planner,
+    pub given: Given,
+}
+
+// A step that takes the caller's bank along.
 pub struct Stepped {
     pub planner: Planner,
     pub bank: Bank,

@@ -1,8 +1,8 @@
 -- What stands in the buffer after a run are the words of the entries that its end counts. Assumes nothing.
-use mathlib.Core.Path.{_≡_, refl, sym, ap, _∙_}
+use mathlib.Core.Path.{_≡_, refl, ap, _∙_}
 use mathlib.Core.Bool.{Bool, true, false, cond}
-use mathlib.Core.List.{List, [], _∷_, _++_}
-use Prim.Native.Nat.{ℕ, suc, _+_, _*_, _/_, _<_, _≤_, min}
+use mathlib.Core.List.{List, []}
+use Prim.Native.Nat.{ℕ, _+_, _*_, _/_, _<_, _≤_, min}
 use native.Mathlib.Numerals.{add-one}
 use native.Mathlib.Omega.{arith}
 use borrow.Author.Tests.{ltb-false}
@@ -12,12 +12,11 @@ use lib.Seq.{take-at, take-suc-set, length-take-le}
 use Rattle.object.specs.declared.types.Verdict.the-variants as verdict
 use Rattle.object.specs.Layout.{read}
 use Rattle.tile.specs.declared.bank.Bank.{Bank}
-use Rattle.plan.specs.declared.types.Entry.{Entry}
 use Rattle.plan.specs.declared.types.End.{End}
 use Rattle.plan.specs.Check.{requestAt}
 use Rattle.plan.specs.Out.{Plan}
 use Rattle.plan.specs.Request as plan
-use Rattle.plan.specs.Run.{Ran, bankOf, planWords, endOf, cutAt, runOf}
+use Rattle.plan.specs.Run.{planWords, endOf, cutAt, runOf}
 use Rattle.plan.specs.Whole.{planOf}
 use Rattle.request.specs.declared.types.Request.{Request}
 use Rattle.request.specs.Host.{withBytes}

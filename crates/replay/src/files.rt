@@ -1,6 +1,6 @@
 // The two files: a bank of 136 words, and records of 64 bytes.
 ghost use mathlib.Core.Path.{_≡_};
-ghost use Prim.Native.Nat.{_≤_, min};
+ghost use Prim.Native.Nat.{min};
 ghost use lib.ListN.{length};
 ghost use Rattle.object.specs.Layout.{Held, read};
 ghost use Rattle.plan.specs.Check.{requestAt};

@@ -11,14 +11,13 @@ use lib.ListN.{getD}
 use lib.IntN.{pos, negsuc}
 use mir.Val.{sel}
 use Rattle.object.specs.declared.types.Scissor.{Scissor}
-use Rattle.object.specs.declared.types.Verdict.{Verdict}
 use Rattle.object.specs.declared.types.Verdict.the-variants as verdict
 use Rattle.object.specs.declared.types.Checked.the-variants as checked
 use Rattle.object.specs.Check.{opcodeBad, edgeBad, scissorBad, refusedBy, short, checkedOf}
 use Rattle.plan.specs.Request as plan
 use Rattle.plan.specs.Out.{planOut, refuse}
 use Rattle.plan.specs.Whole.{checkedOut, planWith, planOf}
-use Rattle.request.specs.Host.{withBytes, edgeIn, scissorIn, hostRequest, opcodeKept, edgeKept, scissorKept, requestKept}
+use Rattle.request.specs.Host.{withBytes, edgeIn, scissorIn, hostRequest, scissorKept, requestKept}
 
 -- ---- edges
 

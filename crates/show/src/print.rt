@@ -11,8 +11,8 @@ use crate::line::Line;
 use crate::line::end_line;
 use crate::line::entry_line;
 use libc::STDOUT_FILENO;
-use plan::Answer;
 use plan::End;
+use planner::Given;
 use planner::Planner;
 
 // The end whose line came last; or that a write failed, after which nothing more is written.
@@ -46,22 +46,23 @@ pub fn print_plan(start: Planner) -> Printed
     ensures { λ r. ⌜ printedRight (coming start .end) r ⌝ }
 {
     let mut p = start;
-    let mut b = stepping::blank();
     loop {
-        let s = p.step(b);
-        let answer = s.answer;
-        match answer {
-            Answer::Entry(e) => {
+        let s = p.step();
+        let given = s.given;
+        match given {
+            Given::Entry(e) => {
                 if !print(entry_line(e)) {
                     return Printed::Failed;
                 }
             }
-            Answer::End(e) => {
+            Given::Refused(_, e) => {
+                return print_end(e);
+            }
+            Given::End(e) => {
                 return print_end(e);
             }
         }
         p = s.planner;
-        b = s.bank;
     }
 }
 

@@ -171,7 +171,7 @@ fn described(
 }
 
 // The tile that an entry changes; 8 for none.
-fn changed(e: Entry) -> usize
+pub fn changed(e: Entry) -> usize
     ensures { λ r. ⌜ r ≡ changedBy e ⌝ }
 {
     match e {
@@ -184,7 +184,7 @@ fn changed(e: Entry) -> usize
 }
 
 // That tile once the entry is given; a load sets its tile's size itself.
-fn tile_after(old: Tile, e: Entry) -> Tile
+pub fn tile_after(old: Tile, e: Entry) -> Tile
     ensures { λ r. ⌜ r ≡ tileStep old e ⌝ }
 {
     match e {

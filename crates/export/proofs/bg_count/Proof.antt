@@ -1,4 +1,4 @@
--- `export::bg_count` meets its contract: a fresh planner has the whole plan to come, and steps to its end. Assumes nothing.
+-- `export::bg_count` meets its contract: the count is the end of the whole plan. Assumes nothing.
 use Rattle.export.proofs.Left.{odd-request-there, odd-end-there, counts}
 use borrow.Author.Needs.{needs}
 use Rattle.export.proofs.bg_count.Statement.{statement}
@@ -13,11 +13,8 @@ returns-2 c = let a = c .before .before .before .before .before .args in odd-end
 from-words-requires : tie.Need-from-words-requires
 from-words-requires c κs = search needs
 
-fresh-requires : tie.Need-fresh-requires
-fresh-requires c κs = search needs
-
-last-requires : tie.Need-last-requires
-last-requires c κs = search needs
+count-requires : tie.Need-count-requires
+count-requires c κs = search needs
 
 end-into-requires : tie.Need-end-into-requires
 end-into-requires c κs = search needs
@@ -27,20 +24,16 @@ same-length c = search needs
 
 returns-3 : tie.Need-returns-3
 returns-3 c =
-    let l = c .before .before .before in
-    let f = l .before .before in
-    let q = f .before in
+    let q = c .before .before .before .before .before in
     let a = q .before .before .before .before .before .before .args in
     counts (a .object .now) (a .request .now) (a .end .now)
     (q .from-words .result)
     (q .from-words .ensures)
-    (f .fresh .result)
-    (l .last .result)
+    (c .before .before .before .before .count .result)
     _
     (q .before .before .if1 .left)
     (q .before .if2 .left)
-    (f .fresh .ensures)
-    (l .last .ensures)
+    (c .before .before .before .before .count .ensures)
     (c .before .before .end-into .ensures)
 
 pub bg-count-spec : {M : Type 1} → statement M
@@ -50,8 +43,7 @@ bg-count-spec =
     returns
     returns-2
     from-words-requires
-    fresh-requires
-    last-requires
+    count-requires
     end-into-requires
     same-length
     returns-3)

@@ -1,11 +1,9 @@
 -- `planner::step::copy_step` meets its contract: what the copy walk answers picks the law. Assumes nothing.
-use borrow.Author.Needs.{needs}
 use mathlib.Core.Path.{_≡_, refl, sym, ap, _∙_}
-use mathlib.Core.List.{[], _∷_}
 use Rattle.object.specs.declared.types.Verdict.the-variants as verdict
 use Rattle.planner.specs.declared.types.Course.the-variants as course
-use Rattle.plan.specs.Run.{bankAfter}
-use Rattle.planner.specs.Step.{step-given, step-stopped, copy-given, copy-too-big, copy-overflow, copy-finished}
+use Rattle.planner.specs.Step.{step-given, step-stopped, step-refused, copy-given, copy-too-big, copy-overflow, copy-finished}
+use borrow.Author.Needs.{needs}
 use Rattle.planner.proofs.step.copy_step.Statement.{statement}
 use Rattle.planner.proofs.step.copy_step.Tie as tie
 
@@ -29,48 +27,42 @@ stop-requires c κs = search needs
 enum-known-size : tie.Need-enum-known-size
 enum-known-size c = search needs
 
-bank-after-requires : tie.Need-bank-after-requires
-bank-after-requires c κs = search needs
-
-stop-requires-2 : tie.Need-stop-requires-2
-stop-requires-2 c κs = search needs
+refuse-requires : tie.Need-refuse-requires
+refuse-requires c κs = search needs
 
 enum-told-2 : tie.Need-enum-told-2
 enum-told-2 c = search needs
 
-stop-requires-3 : tie.Need-stop-requires-3
-stop-requires-3 c κs = search needs
+stop-requires-2 : tie.Need-stop-requires-2
+stop-requires-2 c κs = search needs
 
 returns : tie.Need-returns
 returns c =
     let s = c .before .before .before .before .before in
     let a = s .args in
     let g = copy-given (a .stage) (a .place) (s .pre .course) _ _ _ (sym (c .before .before .before .before .copy-next .ensures) ∙ c .before .before .entry .given .1) in
-    rw (c .give .ensures) (step-given (course.Copy (a .stage) (a .place)) (course.Copy _ _) (a .n) (a .bank) _ (g .0) (g .1 .0) (g .1 .1 .0) (g .1 .1 .1) (s .pre))
+    rw (c .give .ensures) (step-given (course.Copy (a .stage) (a .place)) (course.Copy _ _) (a .n) _ (g .0) (g .1 .0) (g .1 .1 .0) (g .1 .1 .1) (s .pre))
 
 returns-2 : tie.Need-returns-2
-unfolding bankAfter
 returns-2 c =
     let s = c .before .before .before .before in
     let a = s .args in
     let g = copy-too-big (a .stage) (a .place) (s .pre .course) (sym (c .before .before .before .copy-next .ensures) ∙ c .before .enum-told .given .1) in
-    rw (c .stop .ensures) (step-stopped (course.Copy (a .stage) (a .place)) (a .n) (a .bank) [] verdict.TooBig g (a .bank) refl (s .pre))
+    rw (c .stop .ensures) (step-stopped (course.Copy (a .stage) (a .place)) (a .n) verdict.TooBig g (s .pre))
 
 returns-3 : tie.Need-returns-3
-unfolding bankAfter
 returns-3 c =
-    let s = c .before .before .before .before .before .before in
+    let s = c .before .before .before .before .before in
     let a = s .args in
-    let g = copy-overflow (a .stage) (a .place) (s .pre .course) _ (sym (c .before .before .before .before .before .copy-next .ensures) ∙ c .before .before .before .size .given .1) in
-    rw (c .stop2 .ensures) (step-stopped (course.Copy (a .stage) (a .place)) (a .n) (a .bank) _ verdict.Address g _ (c .before .bank-after .ensures) (s .pre))
+    let g = copy-overflow (a .stage) (a .place) (s .pre .course) _ (sym (c .before .before .before .before .copy-next .ensures) ∙ c .before .before .size .given .1) in
+    rw (c .refuse .ensures) (step-refused (course.Copy (a .stage) (a .place)) (a .n) _ g (s .pre))
 
 returns-4 : tie.Need-returns-4
-unfolding bankAfter
 returns-4 c =
     let s = c .before .before .before .before in
     let a = s .args in
     let g = copy-finished (a .stage) (a .place) (s .pre .course) (sym (c .before .before .before .copy-next .ensures) ∙ c .before .enum-told2 .given .1) in
-    rw (c .stop3 .ensures) (step-stopped (course.Copy (a .stage) (a .place)) (a .n) (a .bank) [] verdict.Finished g (a .bank) refl (s .pre))
+    rw (c .stop2 .ensures) (step-stopped (course.Copy (a .stage) (a .place)) (a .n) verdict.Finished g (s .pre))
 
 pub copy-step-spec : {M : Type 1} → statement M
 copy-step-spec =
@@ -82,10 +74,9 @@ copy-step-spec =
     enum-told
     stop-requires
     enum-known-size
-    bank-after-requires
-    stop-requires-2
+    refuse-requires
     enum-told-2
-    stop-requires-3
+    stop-requires-2
     returns
     returns-2
     returns-3

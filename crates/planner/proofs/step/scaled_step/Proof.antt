@@ -1,12 +1,8 @@
 -- `planner::step::scaled_step` meets its contract: what the scaled walk answers picks the law. Assumes nothing.
-use borrow.Author.Needs.{needs}
 use mathlib.Core.Path.{_≡_, refl, sym, ap, _∙_}
-use mathlib.Core.List.{[], _∷_}
-use Rattle.object.specs.declared.types.Verdict.the-variants as verdict
 use Rattle.planner.specs.declared.types.Course.the-variants as course
-use Rattle.plan.specs.Run.{bankAfter}
-use Rattle.planner.specs.Coming.{courseOf}
-use Rattle.planner.specs.Step.{step-stopped, step-scaled}
+use Rattle.planner.specs.Step.{step-refused, step-scaled}
+use borrow.Author.Needs.{needs}
 use Rattle.planner.proofs.step.scaled_step.Statement.{statement}
 use Rattle.planner.proofs.step.scaled_step.Tie as tie
 
@@ -28,26 +24,22 @@ give-requires c κs =
 enum-known-size : tie.Need-enum-known-size
 enum-known-size c = search needs
 
-bank-after-requires : tie.Need-bank-after-requires
-bank-after-requires c κs = search needs
-
-stop-requires : tie.Need-stop-requires
-stop-requires c κs = search needs
+refuse-requires : tie.Need-refuse-requires
+refuse-requires c κs = search needs
 
 returns : tie.Need-returns
 returns c =
     let s = c .before .before .before .before .before .before in
     let a = s .args in
     let g = rw (c .before .before .before .entry .given .1) at (c .before .before .before .before .before .scaled-next .ensures) in
-    rw (c .give .ensures, c .before .course-of .ensures) (step-scaled (a .stage) (a .place) (a .n) (a .bank) _ (c .before .before .before .entry .given .0 .1 .0) g (s .pre))
+    rw (c .give .ensures, c .before .course-of .ensures) (step-scaled (a .stage) (a .place) (a .n) _ (c .before .before .before .entry .given .0 .1 .0) g (s .pre))
 
 returns-2 : tie.Need-returns-2
-unfolding bankAfter
 returns-2 c =
-    let s = c .before .before .before .before .before .before in
+    let s = c .before .before .before .before .before in
     let a = s .args in
-    let g = rw (c .before .before .before .size .given .1) at (c .before .before .before .before .before .scaled-next .ensures) in
-    rw (c .stop .ensures) (step-stopped (course.Scaled (a .stage) (a .place)) (a .n) (a .bank) _ verdict.Address g _ (c .before .bank-after .ensures) (s .pre))
+    let g = rw (c .before .before .size .given .1) at (c .before .before .before .before .scaled-next .ensures) in
+    rw (c .refuse .ensures) (step-refused (course.Scaled (a .stage) (a .place)) (a .n) _ g (s .pre))
 
 pub scaled-step-spec : {M : Type 1} → statement M
 scaled-step-spec =
@@ -58,7 +50,6 @@ scaled-step-spec =
     course-of-requires
     give-requires
     enum-known-size
-    bank-after-requires
-    stop-requires
+    refuse-requires
     returns
     returns-2)

@@ -1,12 +1,10 @@
 -- `planner::types::Planner::step` meets its contract: the course picks the step. Assumes nothing.
-use borrow.Author.Needs.{needs}
 use mathlib.Core.Path.{refl, sym, subst}
-use mathlib.Core.List.{[]}
-use Rattle.plan.specs.Run.{bankAfter}
 use Rattle.planner.specs.declared.types.Course.{Course}
 use Rattle.planner.specs.declared.types.Course.the-variants as course
-use Rattle.planner.specs.Coming.{StepIs}
+use Rattle.planner.specs.Coming.{StepGives}
 use Rattle.planner.specs.Step.{plannerAt, step-stopped}
+use borrow.Author.Needs.{needs}
 use Rattle.planner.proofs.types.Planner.step.Statement.{statement}
 use Rattle.planner.proofs.types.Planner.step.Tie as tie
 
@@ -35,20 +33,19 @@ stop-requires : tie.Need-stop-requires
 stop-requires c κs = search needs
 
 returns : tie.Need-returns
-returns c = let a = c .before .before .before .before .args in subst (λ (w : Course). StepIs (plannerAt w (a .self .counts)) (a .bank) (c .copy-step .result)) (sym (c .before .before .course .given .1)) (c .copy-step .ensures)
+returns c = let a = c .before .before .before .before .args in subst (λ (w : Course). StepGives (plannerAt w (a .self .counts)) (c .copy-step .result)) (sym (c .before .before .course .given .1)) (c .copy-step .ensures)
 
 returns-2 : tie.Need-returns-2
-returns-2 c = let a = c .before .before .before .before .args in subst (λ (w : Course). StepIs (plannerAt w (a .self .counts)) (a .bank) (c .scaled-step .result)) (sym (c .before .before .course2 .given .1)) (c .scaled-step .ensures)
+returns-2 c = let a = c .before .before .before .before .args in subst (λ (w : Course). StepGives (plannerAt w (a .self .counts)) (c .scaled-step .result)) (sym (c .before .before .course2 .given .1)) (c .scaled-step .ensures)
 
 returns-3 : tie.Need-returns-3
-unfolding bankAfter
 returns-3 c =
     let s = c .before .before .before .before in
     let a = s .args in
     let h = s .pre in
     let e = c .before .before .course3 .given .1 in
-    subst (λ (w : Course). StepIs (plannerAt w (a .self .counts)) (a .bank) (c .stop .result)) (sym e)
-    (rw (c .stop .ensures) (step-stopped (course.Over _) (a .self .counts) (a .bank) [] _ refl (a .bank) refl (record { course = tt; counts = h .counts; few = rw e at (h .few) })))
+    subst (λ (w : Course). StepGives (plannerAt w (a .self .counts)) (c .stop .result)) (sym e)
+    (rw (c .stop .ensures) (step-stopped (course.Over _) (a .self .counts) _ refl (record { course = tt; counts = h .counts; few = rw e at (h .few) })))
 
 pub step-spec : {M : Type 1} → statement M
 step-spec =

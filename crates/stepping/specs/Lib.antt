@@ -1,2 +1,0 @@
--- The laws by which a loop of steps ends.
-pub mod Stepping
