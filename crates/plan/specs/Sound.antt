@@ -12,7 +12,9 @@ use Rattle.plan.specs.declared.types.Entry.the-variants.{Image, Tile, Si
 
 -- a copy plan of a frame that is not empty
 pub record SoundCopy (c : Copy) : Type 0 where
+  pub fmt : c .fmt ≤ 255
   pub siz : c .siz ≤ 3
+  pub palette : c .palette ≤ 255
   pub rows : 1 ≤ c .rows
   pub rows′ : c .rows ≤ 16383
   pub image-width : 1 ≤ c .«image_width»
@@ -34,7 +36,9 @@ pub record SoundCopy (c : Copy) : Type 0 where
 
 -- a scaled plan that verdict 6 has passed
 pub record SoundScaled (z : Scaled) : Type 0 where
+  pub fmt : z .fmt ≤ 255
   pub siz : z .siz ≤ 3
+  pub palette : z .palette ≤ 255
   pub line : 1 ≤ z .line
   pub line′ : z .line ≤ 512
   pub image-rows : 1 ≤ z .«image_rows»
@@ -78,7 +82,17 @@ entryLine (Size i uls ult lrs lrt) = 0
 entryLine (Load i uls ult lrs lrt words rows stride start len) = 0
 entryLine (Rect i ulx uly lrx lry uls ult dsdx dtdy row) = 0
 
+-- what a tile keeps of an entry fits the tile's fields, of 8 and of 16 bits
+abbrev pub Narrow : Entry → Type 0
+Narrow (Image fmt siz width address) = Unit {0}
+Narrow (Tile i fmt siz line tmem palette cms cmt masks maskt) =
+    (fmt ≤ 255) × ((siz ≤ 255) × ((line ≤ 65535) × ((tmem ≤ 65535) × ((palette ≤ 255) × ((cms ≤ 255) × ((cmt ≤ 255) × ((masks ≤ 255) × (maskt ≤ 255))))))))
+Narrow (Size i uls ult lrs lrt) = (uls ≤ 65535) × ((ult ≤ 65535) × ((lrs ≤ 65535) × (lrt ≤ 65535)))
+Narrow (Load i uls ult lrs lrt words rows stride start len) = (uls ≤ 65535) × ((ult ≤ 65535) × ((lrs ≤ 65535) × (lrt ≤ 65535)))
+Narrow (Rect i ulx uly lrx lry uls ult dsdx dtdy row) = Unit {0}
+
 -- so few that their product fits a word
 pub record EntryIn (e : Entry) : Type 0 where
   pub rows : entryRows e ≤ 16384
   pub line : entryLine e ≤ 65535
+  pub narrow : Narrow e

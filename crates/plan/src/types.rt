@@ -1,39 +1,39 @@
 // The entries and ends of plans, and the numbers of both planners, with the names of the Rust.
 use object::Verdict;
 
-// One entry of a plan.
+// One entry of a plan. Its numbers have 64 bits, as a host gets them: the compiler would pack and unpack narrower ones at every step.
 pub enum Entry {
     Image {
-        fmt: u8,
-        siz: u8,
-        width: u16,
+        fmt: u64,
+        siz: u64,
+        width: u64,
         address: u64,
     },
     Tile {
-        index: u8,
-        fmt: u8,
-        siz: u8,
-        line: u16,
-        tmem: u16,
-        palette: u8,
-        cms: u8,
-        cmt: u8,
-        masks: u8,
-        maskt: u8,
+        index: u64,
+        fmt: u64,
+        siz: u64,
+        line: u64,
+        tmem: u64,
+        palette: u64,
+        cms: u64,
+        cmt: u64,
+        masks: u64,
+        maskt: u64,
     },
     Size {
-        index: u8,
-        uls: u16,
-        ult: u16,
-        lrs: u16,
-        lrt: u16,
+        index: u64,
+        uls: u64,
+        ult: u64,
+        lrs: u64,
+        lrt: u64,
     },
     Load {
-        index: u8,
-        uls: u16,
-        ult: u16,
-        lrs: u16,
-        lrt: u16,
+        index: u64,
+        uls: u64,
+        ult: u64,
+        lrs: u64,
+        lrt: u64,
         words: u64,
         rows: u64,
         stride: u64,
@@ -41,15 +41,15 @@ pub enum Entry {
         length: u64,
     },
     Rect {
-        tile: u8,
+        tile: u64,
         ulx: u64,
         uly: u64,
         lrx: u64,
         lry: u64,
-        uls: i16,
-        ult: i16,
-        dsdx: i16,
-        dtdy: i16,
+        uls: i64,
+        ult: i64,
+        dsdx: i64,
+        dtdy: i64,
         row: u64,
     },
 }
@@ -70,9 +70,9 @@ pub enum Answer {
 
 // What no strip of a copy plan changes, in cells of 4 units.
 pub struct Copy {
-    pub fmt: u8,
-    pub siz: u8,
-    pub palette: u8,
+    pub fmt: u64,
+    pub siz: u64,
+    pub palette: u64,
     pub flip: bool,
     pub address: u64,
     pub rows: u64,
@@ -122,9 +122,9 @@ pub struct Start {
 
 // What no pass of a scaled plan changes.
 pub struct Scaled {
-    pub fmt: u8,
-    pub siz: u8,
-    pub palette: u8,
+    pub fmt: u64,
+    pub siz: u64,
+    pub palette: u64,
     pub address: u64,
     pub x: u64,
     pub x_end: u64,
