@@ -14,10 +14,11 @@ use Rattle.plan.specs.declared.types.Answer.the-variants as answer
 use Rattle.plan.specs.Request.{Request}
 use Rattle.plan.specs.Out.{Plan, planOut}
 use Rattle.plan.specs.Next.{ended}
+use Rattle.plan.specs.Sound.{Narrow}
 use Rattle.plan.specs.Whole.{copyOut, scaledOut, planOf}
 use Rattle.plan.specs.Steps.{Coming, comingOf, nextOf, answerOf, bankNext}
 use Rattle.copy.specs.Coming.{comingCopy}
-use Rattle.copy.specs.Walk.{SoundPlace}
+use Rattle.copy.specs.Walk as walk
 use Rattle.copy.specs.Kept.{leftCopy}
 use Rattle.passes.specs.declared.types.Reached.{Reached}
 use Rattle.passes.specs.declared.types.Reached.the-variants as reached
@@ -48,7 +49,7 @@ coming p = comingFrom (comingCourse (p .course)) (p .counts)
 
 -- the ranges of a course, and how many entries it has at the most
 abbrev pub soundCourse : Course → Type 0
-soundCourse (course.Copy s p) = SoundPlace p
+soundCourse (course.Copy s p) = walk.soundAt s p
 soundCourse (course.Scaled s p) = soundAt s p
 soundCourse (course.Over v) = Unit {0}
 
@@ -79,6 +80,12 @@ leftIn (given.Entry e) = []
 leftIn (given.Refused s x) = s ∷ []
 leftIn (given.End x) = []
 
+-- what a tile keeps of it fits the tile's fields
+abbrev pub givenIn : Given → Type 0
+givenIn (given.Entry e) = Narrow e
+givenIn (given.Refused s x) = Narrow s
+givenIn (given.End x) = Unit {0}
+
 -- what the refused load of a plan has set shows at its end
 abbrev pub leftNext : List Entry → List Entry → List Entry
 leftNext [] left = left
@@ -88,6 +95,7 @@ leftNext (e ∷ es) left = []
 pub record StepGives (p : Planner) (r : Step) : Type 0 where
   pub answer : answerIn (r .given) ≡ answerOf (coming p .entries) (coming p .end)
   pub left : leftIn (r .given) ≡ leftNext (coming p .entries) (coming p .left)
+  pub narrow : givenIn (r .given)
   pub rest : coming (r .planner) ≡ nextOf (coming p .entries) (coming p .left) (coming p .end)
   pub counts : r .planner .counts ≡ countsNext (coming p .entries) (p .counts)
   pub sound : Sound (r .planner)

@@ -21,7 +21,7 @@ use Rattle.plan.specs.declared.types.End.{End}
 use Rattle.plan.specs.Out.{Plan}
 use Rattle.plan.specs.Next.{Next, cons, ended, Follows}
 use Rattle.plan.specs.Next.Next.{give, over}
-use Rattle.plan.specs.Sound.{EntryIn}
+use Rattle.plan.specs.Sound.{EntryIn, Narrow}
 use Rattle.plan.specs.Run.{bankStep, bankAfter}
 use Rattle.plan.specs.Steps.{Coming, nextOf, answerOf, bankNext}
 use Rattle.copy.specs.declared.types.Stage.{Stage}
@@ -48,7 +48,7 @@ use Rattle.planner.specs.declared.types.Planner.{Planner}
 use Rattle.planner.specs.declared.types.Given.{Given}
 use Rattle.planner.specs.declared.types.Given.the-variants as given
 use Rattle.planner.specs.declared.types.Step.{Step}
-use Rattle.planner.specs.Coming.{comingCourse, comingFrom, coming, soundCourse, leftCourse, Sound, countsNext, answerIn, leftIn, leftNext, StepGives, StepIs, giveOf, stopOf, refuseOf, courseOf}
+use Rattle.planner.specs.Coming.{comingCourse, comingFrom, coming, soundCourse, leftCourse, Sound, countsNext, answerIn, leftIn, givenIn, leftNext, StepGives, StepIs, giveOf, stopOf, refuseOf, courseOf}
 
 abbrev pub plannerAt : Course → Counts → Planner
 plannerAt w n = record { course = w; counts = n }
@@ -77,6 +77,7 @@ module _ (w w′ : Course) (n : Counts) (e : Entry) (i : comingCourse w ≡ cons
       record {
         answer = sym (given-answer (comingCourse w) n e (comingCourse w′) i);
         left = given-left;
+        narrow = a .narrow;
         rest = given-rest;
         counts = given-counts;
         sound = record { course = s; counts = counted-countable n e (h .counts) (omega arith) (a .line); few = omega arith };
@@ -98,74 +99,41 @@ module _ (w : Course) (n : Counts) (left : List Entry) (v : Verdict) (i : coming
   stopped-counts : n ≡ countsNext (comingFrom (comingCourse w) n .entries) n
   stopped-counts = rw i
 
-  step-ended : (g : Given) → answerIn g ≡ answer.End (endWith n v) → leftIn g ≡ left → Sound (plannerAt w n) → StepGives (plannerAt w n) (record { planner = plannerAt (course.Over v) n; given = g })
+  step-ended : (g : Given) → answerIn g ≡ answer.End (endWith n v) → leftIn g ≡ left → givenIn g → Sound (plannerAt w n) → StepGives (plannerAt w n) (record { planner = plannerAt (course.Over v) n; given = g })
   unfolding coming
-  step-ended g a l h =
+  step-ended g a l t h =
       let f = h .few in
       record {
         answer = a ∙ stopped-answer;
         left = l ∙ stopped-left;
+        narrow = t;
         rest = stopped-rest;
         counts = stopped-counts;
         sound = record { course = tt; counts = h .counts; few = omega arith };
       }
 
 pub step-stopped : (w : Course) (n : Counts) (v : Verdict) → comingCourse w ≡ ended [] v → Sound (plannerAt w n) → StepGives (plannerAt w n) (stopOf n v)
-step-stopped w n v i h = step-ended w n [] v i (given.End (endWith n v)) refl refl h
+step-stopped w n v i h = step-ended w n [] v i (given.End (endWith n v)) refl refl tt h
 
-pub step-refused : (w : Course) (n : Counts) (s : Entry) → comingCourse w ≡ ended (s ∷ []) verdict.Address → Sound (plannerAt w n) → StepGives (plannerAt w n) (refuseOf n s)
-step-refused w n s i h = step-ended w n (s ∷ []) verdict.Address i (given.Refused s (endWith n verdict.Address)) refl refl h
+pub step-refused : (w : Course) (n : Counts) (s : Entry) → comingCourse w ≡ ended (s ∷ []) verdict.Address → Narrow s → Sound (plannerAt w n) → StepGives (plannerAt w n) (refuseOf n s)
+step-refused w n s i t h = step-ended w n (s ∷ []) verdict.Address i (given.Refused s (endWith n verdict.Address)) refl refl t h
 
 -- ---- copy
 
--- the entries of a copy walk are small
-nextIn : CopyNext → Type 0
-nextIn (copied.Entry e s p) = EntryIn e
-nextIn copied.TooBig = Unit {0}
-nextIn (copied.Overflow e) = Unit {0}
-nextIn copied.Finished = Unit {0}
-
-tile7-in : (t : Bool) (p : Place) → nextIn (tile7Next t p)
-unfolding nextIn tile7Next
-tile7-in true p = tt
-tile7-in false p = record { rows = omega arith; line = omega arith }
-
-load-in : (q : LoadRequest) (a : Area) (p : Place) → rowsIn q ≤ 16384 → nextIn (loadNext q a p)
-unfolding nextIn loadNext
-load-in (request.Load words rows stride start length) a p h = record { rows = h; line = omega arith }
-load-in request.Overflow a p h = tt
-
-rect-in : (t u : Bool) (p : Place) → nextIn (rectNext t u p)
-unfolding nextIn rectNext
-rect-in true u p = record { rows = omega arith; line = omega arith }
-rect-in false true p = record { rows = omega arith; line = omega arith }
-rect-in false false p = record { rows = omega arith; line = omega arith }
-
-next-in : (s : Stage) (p : Place) → nextIn (copyNextOf s p)
-unfolding copyNextOf nextIn
-next-in stage.Image p = record { rows = omega arith; line = omega arith }
-next-in stage.Tile7 p = tile7-in (tooBig p) p
-next-in stage.Tile0 p = record { rows = omega arith; line = omega arith }
-next-in stage.Size p = record { rows = omega arith; line = omega arith }
-next-in stage.Load p = load-in (requestIn (p .copy) (areaOf p)) (areaOf p) p (rows-in _ _ _ _ _ _ _ (omega arith))
-next-in stage.Rect p = rect-in _ _ p
-next-in stage.Done p = tt
-
-module _ (s : Stage) (p : Place) (h : SoundPlace p) where
+module _ (s : Stage) (p : Place) (h : walk.soundAt s p) where
   -- what the walk answers, by its constructor
   pub copy-given : (e : Entry) (s′ : Stage) (p′ : Place) → copyNextOf s p ≡ copied.Entry e s′ p′
-      → (comingCopy s p ≡ cons e (comingCopy s′ p′)) × (EntryIn e × (SoundPlace p′ × (suc (leftCopy s′ p′) ≤ leftCopy s p)))
-  unfolding nextIn
+      → (comingCopy s p ≡ cons e (comingCopy s′ p′)) × (EntryIn e × (walk.soundAt s′ p′ × (suc (leftCopy s′ p′) ≤ leftCopy s p)))
   copy-given e s′ p′ i =
       let f = rw i at (copy-follows s p h) in
       let k = rw i at (copy-kept s p h) in
-      (f, (rw i at (next-in s p), (k .sound, k .less)))
+      (f, (rw i at (next-in s p h), (k .sound, k .less)))
 
   pub copy-too-big : copyNextOf s p ≡ copied.TooBig → comingCopy s p ≡ ended [] verdict.TooBig
   copy-too-big i = rw i at (copy-follows s p h)
 
-  pub copy-overflow : (e : Entry) → copyNextOf s p ≡ copied.Overflow e → comingCopy s p ≡ ended (e ∷ []) verdict.Address
-  copy-overflow e i = rw i at (copy-follows s p h)
+  pub copy-overflow : (e : Entry) → copyNextOf s p ≡ copied.Overflow e → (comingCopy s p ≡ ended (e ∷ []) verdict.Address) × Narrow e
+  copy-overflow e i = (rw i at (copy-follows s p h), rw i at (next-in s p h))
 
   pub copy-finished : copyNextOf s p ≡ copied.Finished → comingCopy s p ≡ ended [] verdict.Finished
   copy-finished i = rw i at (copy-follows s p h)

@@ -8,6 +8,9 @@ use native.Mathlib.Omega.{arith}
 use lib.ListN.{length, take, getD, set}
 use lib.Seq.{paste, paste-suc, take-paste, length-paste, take-suc, take-all, take-length, drop-length}
 use Rattle.tile.specs.declared.bank.Tile.{Tile}
+use Rattle.plan.specs.declared.types.Entry.{Entry}
+use Rattle.plan.specs.Run.{entryWords}
+use Rattle.words.specs.Eleven.{eleven}
 use Rattle.words.specs.Host.{tileNumbers, tilesNumbers}
 
 -- a turn of the loop that puts the words of w into d
@@ -20,6 +23,9 @@ pub filled : (d w : List ℕ) → length d ≡ length w → paste d 0 w (length 
 filled d w e =
     let z : 0 + length w ≡ length d = omega arith in
     rw (z, drop-length d, take-length w) (append-nil w)
+
+pub eleven-filled : (d : List ℕ) (e : Entry) → length d ≡ 11 → paste d 0 (entryWords e) 11 ≡ entryWords e
+eleven-filled d e l = ap (λ (n : ℕ). paste d 0 (entryWords e) n) (sym (eleven e)) ∙ filled d (entryWords e) (l ∙ sym (eleven e))
 
 seventeen : (t : Tile) → length (tileNumbers t) ≡ 17
 unfolding tileNumbers

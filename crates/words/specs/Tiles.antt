@@ -1,6 +1,6 @@
 -- What an entry does to the bank, as one tile changed in place. D is document 01, 'Tiles and the bank'.
 -- Assumes nothing.
-use mathlib.Core.Path.{_≡_, refl, ap}
+use mathlib.Core.Path.{_≡_, refl, sym, ap, _∙_}
 use mathlib.Core.List.{List}
 use Prim.Native.Nat.{ℕ, _≤_, _<_}
 use native.Mathlib.Omega.{arith}
@@ -48,3 +48,13 @@ bank-kept b (entry.Tile i fmt siz line tmem palette cms cmt masks maskt) n h = u
 bank-kept b (entry.Size i uls ult lrs lrt) n h = unset b i _ n h
 bank-kept b (entry.Load i uls ult lrs lrt words rows stride start len) n h = unset b i _ n h
 bank-kept b (entry.Rect i ulx uly lrx lry uls ult dsdx dtdy row) n h = refl
+
+-- the same of a bank that was changed in place
+pub set-is : (b : Bank) (e : Entry) (i : ℕ) (t : Tile) → changedBy e ≡ i → i < 8 → t ≡ tileStep (getD (b .tiles) i blank) e → record { tiles = set (b .tiles) i t } ≡ bankStep b e
+set-is b e i t c h k =
+    ap (λ (u : Tile). record { tiles = set (b .tiles) i u }) k
+    ∙ ap (λ (j : ℕ). record { tiles = set (b .tiles) j (tileStep (getD (b .tiles) j blank) e) }) (sym c)
+    ∙ sym (bank-set b e (omega arith))
+
+pub kept-is : (b : Bank) (e : Entry) (i : ℕ) → length (b .tiles) ≡ 8 → changedBy e ≡ i → 8 ≤ i → b ≡ bankStep b e
+kept-is b e i n c h = sym (bank-kept b e n (omega arith))

@@ -16,8 +16,8 @@ pub(crate) fn put(to: &mut [u64], at: usize, from: &[u64])
     }
 }
 
-// An entry's eleven words.
-pub fn store(plan: &mut [u64], at: usize, words: [u64; 11])
+// Eleven words.
+pub(crate) fn store(plan: &mut [u64], at: usize, words: [u64; 11])
     requires { ⌜ at + 11 ≤ length (now plan) ⌝ }
     ensures { λ _. ⌜ now (plan .exit) ≡ paste (now (plan .entry)) at words 11 ⌝ }
 {

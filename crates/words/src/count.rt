@@ -27,7 +27,7 @@ pub fn counted(n: Counts, e: Entry) -> Counts
     match e {
         Entry::Tile { index, line, .. } => {
             if index == 7 {
-                next.line = line as u64;
+                next.line = line;
             }
         }
         Entry::Load { rows, .. } => {

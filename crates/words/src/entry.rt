@@ -1,26 +1,24 @@
 // One entry: its eleven words, and the bank after it.
 ghost use mathlib.Core.Path.{_≡_};
-ghost use Rattle.signed.specs.Cast.{word};
+ghost use Prim.Native.Nat.{_+_, _≤_};
+ghost use lib.ListN.{length};
+ghost use lib.Seq.{paste};
+ghost use Rattle.plan.specs.Sound.{Narrow};
 ghost use Rattle.plan.specs.Run.{descriptor, bankStep, entryWords};
 ghost use Rattle.words.specs.Tiles.{changedBy, tileStep};
+use crate::buffer::store;
 use plan::Entry;
-use signed::wide;
 use signed::word_of;
 use tile::Bank;
 use tile::Tile;
 use tile::replaced;
 use tile::resized;
 
-// Signed numbers are words modulo 2^64.
-fn signed_word(x: i16) -> u64
-    ensures { λ r. ⌜ r ≡ word x ⌝ }
-{
-    word_of(wide(x))
-}
-
-// The kind, the entry's numbers, then zeros: a table, so longer than other functions.
-pub fn entry_words(e: Entry) -> [u64; 11]
-    ensures { λ r. ⌜ r ≡ entryWords e ⌝ }
+// Writes an entry's words: the kind, its numbers, signed ones modulo 2^64, then zeros. A table, so longer than other functions; a store for each kind, since one
+// for all would first gather eleven words from each.
+pub fn store_entry(plan: &mut [u64], at: usize, e: Entry)
+    requires { ⌜ at + 11 ≤ length (now plan) ⌝ }
+    ensures { λ _. ⌜ now (plan .exit) ≡ paste (now (plan .entry)) at (entryWords e) 11 ⌝ }
 {
     match e {
         Entry::Image {
@@ -28,19 +26,10 @@ pub fn entry_words(e: Entry) -> [u64; 11]
             siz,
             width,
             address,
-        } => [
-            1,
-            fmt as u64,
-            siz as u64,
-            width as u64,
-            address,
-            0,
-            0,
-            0,
-            0,
-            0,
-            0,
-        ],
+        } => {
+            let words = [1, fmt, siz, width, address, 0, 0, 0, 0, 0, 0];
+            store(&mut *plan, at, words);
+        }
         Entry::Tile {
             index,
             fmt,
@@ -52,38 +41,32 @@ pub fn entry_words(e: Entry) -> [u64; 11]
             cmt,
             masks,
             maskt,
-        } => [
-            2,
-            index as u64,
-            fmt as u64,
-            siz as u64,
-            line as u64,
-            tmem as u64,
-            palette as u64,
-            cms as u64,
-            cmt as u64,
-            masks as u64,
-            maskt as u64,
-        ],
+        } => {
+            let words = [
+                2,
+                index,
+                fmt,
+                siz,
+                line,
+                tmem,
+                palette,
+                cms,
+                cmt,
+                masks,
+                maskt,
+            ];
+            store(&mut *plan, at, words);
+        }
         Entry::Size {
             index,
             uls,
             ult,
             lrs,
             lrt,
-        } => [
-            3,
-            index as u64,
-            uls as u64,
-            ult as u64,
-            lrs as u64,
-            lrt as u64,
-            0,
-            0,
-            0,
-            0,
-            0,
-        ],
+        } => {
+            let words = [3, index, uls, ult, lrs, lrt, 0, 0, 0, 0, 0];
+            store(&mut *plan, at, words);
+        }
         Entry::Load {
             index,
             uls,
@@ -95,19 +78,22 @@ pub fn entry_words(e: Entry) -> [u64; 11]
             stride,
             start,
             length,
-        } => [
-            4,
-            index as u64,
-            uls as u64,
-            ult as u64,
-            lrs as u64,
-            lrt as u64,
-            words,
-            rows,
-            stride,
-            start,
-            length,
-        ],
+        } => {
+            let words = [
+                4,
+                index,
+                uls,
+                ult,
+                lrs,
+                lrt,
+                words,
+                rows,
+                stride,
+                start,
+                length,
+            ];
+            store(&mut *plan, at, words);
+        }
         Entry::Rect {
             tile,
             ulx,
@@ -119,20 +105,32 @@ pub fn entry_words(e: Entry) -> [u64; 11]
             dsdx,
             dtdy,
             row,
-        } => [
-            5,
-            tile as u64,
-            ulx,
-            uly,
-            lrx,
-            lry,
-            signed_word(uls),
-            signed_word(ult),
-            signed_word(dsdx),
-            signed_word(dtdy),
-            row,
-        ],
+        } => {
+            let words = [
+                5,
+                tile,
+                ulx,
+                uly,
+                lrx,
+                lry,
+                word_of(uls),
+                word_of(ult),
+                word_of(dsdx),
+                word_of(dtdy),
+                row,
+            ];
+            store(&mut *plan, at, words);
+        }
     }
+}
+
+// An entry's eleven words.
+pub fn entry_words(e: Entry) -> [u64; 11]
+    ensures { λ r. ⌜ r ≡ entryWords e ⌝ }
+{
+    let mut words = [0u64; 11];
+    store_entry(&mut words, 0, e);
+    words
 }
 
 // The tile that an entry names. Its bounds are not read: setting a tile keeps them.
@@ -185,6 +183,7 @@ pub fn changed(e: Entry) -> usize
 
 // That tile once the entry is given; a load sets its tile's size itself.
 pub fn tile_after(old: Tile, e: Entry) -> Tile
+    requires { ⌜ Narrow e ⌝ }
     ensures { λ r. ⌜ r ≡ tileStep old e ⌝ }
 {
     match e {
@@ -200,7 +199,17 @@ pub fn tile_after(old: Tile, e: Entry) -> Tile
             maskt,
             ..
         } => {
-            let tile = described(fmt, siz, line, tmem, palette, cms, cmt, masks, maskt);
+            let tile = described(
+                fmt as u8,
+                siz as u8,
+                line as u16,
+                tmem as u16,
+                palette as u8,
+                cms as u8,
+                cmt as u8,
+                masks as u8,
+                maskt as u8,
+            );
             replaced(old, tile)
         }
         Entry::Size {
@@ -209,14 +218,14 @@ pub fn tile_after(old: Tile, e: Entry) -> Tile
             lrs,
             lrt,
             ..
-        } => resized(old, uls, ult, lrs, lrt),
+        } => resized(old, uls as u16, ult as u16, lrs as u16, lrt as u16),
         Entry::Load {
             uls,
             ult,
             lrs,
             lrt,
             ..
-        } => resized(old, uls, ult, lrs, lrt), // no entry of its own
+        } => resized(old, uls as u16, ult as u16, lrs as u16, lrt as u16), // no entry of its own
         Entry::Image { .. } => old,
         Entry::Rect { .. } => old,
     }
@@ -224,6 +233,7 @@ pub fn tile_after(old: Tile, e: Entry) -> Tile
 
 // The bank once an entry is given.
 pub fn bank_after(bank: Bank, e: Entry) -> Bank
+    requires { ⌜ Narrow e ⌝ }
     ensures { λ r. ⌜ r ≡ bankStep bank e ⌝ }
 {
     let i = changed(e);

@@ -12,9 +12,6 @@ add-next c = search needs
 enum-known-e : tie.Need-enum-known-e
 enum-known-e c = search needs
 
-cast-next : tie.Need-cast-next
-cast-next c = search needs
-
 enum-known-e-2 : tie.Need-enum-known-e-2
 enum-known-e-2 c = search needs
 
@@ -66,7 +63,6 @@ counted-spec =
     (tie.spec
     add-next
     enum-known-e
-    cast-next
     enum-known-e-2
     mul-most
     most-requires

@@ -7,20 +7,11 @@ use Rattle.words.proofs.entry.changed.Tie as tie
 enum-known-e : tie.Need-enum-known-e
 enum-known-e c = search needs
 
-cast-result : tie.Need-cast-result
-cast-result c = search needs
-
 enum-known-e-2 : tie.Need-enum-known-e-2
 enum-known-e-2 c = search needs
 
-cast-result-2 : tie.Need-cast-result-2
-cast-result-2 c = search needs
-
 enum-known-e-3 : tie.Need-enum-known-e-3
 enum-known-e-3 c = search needs
-
-cast-result-3 : tie.Need-cast-result-3
-cast-result-3 c = search needs
 
 enum-told : tie.Need-enum-told
 enum-told c = search needs
@@ -53,11 +44,8 @@ changed-spec =
     tie.close
     (tie.spec
     enum-known-e
-    cast-result
     enum-known-e-2
-    cast-result-2
     enum-known-e-3
-    cast-result-3
     enum-told
     enum-told-2
     returns

@@ -1,4 +1,5 @@
--- `words::entry::tile_after` meets its contract: each arm is the definition's clause. Assumes nothing.
+-- `words::entry::tile_after` meets its contract: each arm is the definition's clause, and what it cuts to a tile's fields fits them. Assumes nothing.
+use native.Mathlib.Omega.{arith}
 use Rattle.words.specs.Tiles.{tileStep}
 use borrow.Author.Needs.{needs}
 use Rattle.words.proofs.entry.tile_after.Statement.{statement}
@@ -6,6 +7,33 @@ use Rattle.words.proofs.entry.tile_after.Tie as tie
 
 enum-known-e : tie.Need-enum-known-e
 enum-known-e c = search needs
+
+cast-described : tie.Need-cast-described
+cast-described c = let n = rw (c .before .e .given .1) at (c .before .before .before .pre) in omega (arith, n .0)
+
+cast-described-2 : tie.Need-cast-described-2
+cast-described-2 c = let n = rw (c .before .e .given .1) at (c .before .before .before .pre) in omega (arith, n .1 .0)
+
+cast-described-3 : tie.Need-cast-described-3
+cast-described-3 c = let n = rw (c .before .e .given .1) at (c .before .before .before .pre) in omega (arith, n .1 .1 .0)
+
+cast-described-4 : tie.Need-cast-described-4
+cast-described-4 c = let n = rw (c .before .e .given .1) at (c .before .before .before .pre) in omega (arith, n .1 .1 .1 .0)
+
+cast-described-5 : tie.Need-cast-described-5
+cast-described-5 c = let n = rw (c .before .e .given .1) at (c .before .before .before .pre) in omega (arith, n .1 .1 .1 .1 .0)
+
+cast-described-6 : tie.Need-cast-described-6
+cast-described-6 c = let n = rw (c .before .e .given .1) at (c .before .before .before .pre) in omega (arith, n .1 .1 .1 .1 .1 .0)
+
+cast-described-7 : tie.Need-cast-described-7
+cast-described-7 c = let n = rw (c .before .e .given .1) at (c .before .before .before .pre) in omega (arith, n .1 .1 .1 .1 .1 .1 .0)
+
+cast-described-8 : tie.Need-cast-described-8
+cast-described-8 c = let n = rw (c .before .e .given .1) at (c .before .before .before .pre) in omega (arith, n .1 .1 .1 .1 .1 .1 .1 .0)
+
+cast-described-9 : tie.Need-cast-described-9
+cast-described-9 c = let n = rw (c .before .e .given .1) at (c .before .before .before .pre) in omega (arith, n .1 .1 .1 .1 .1 .1 .1 .1)
 
 described-requires : tie.Need-described-requires
 described-requires c κs = search needs
@@ -16,11 +44,35 @@ replaced-requires c κs = search needs
 enum-known-e-2 : tie.Need-enum-known-e-2
 enum-known-e-2 c = search needs
 
+cast-resized : tie.Need-cast-resized
+cast-resized c = let n = rw (c .before .e2 .given .1) at (c .before .before .before .pre) in omega (arith, n .0)
+
+cast-resized-2 : tie.Need-cast-resized-2
+cast-resized-2 c = let n = rw (c .before .e2 .given .1) at (c .before .before .before .pre) in omega (arith, n .1 .0)
+
+cast-resized-3 : tie.Need-cast-resized-3
+cast-resized-3 c = let n = rw (c .before .e2 .given .1) at (c .before .before .before .pre) in omega (arith, n .1 .1 .0)
+
+cast-resized-4 : tie.Need-cast-resized-4
+cast-resized-4 c = let n = rw (c .before .e2 .given .1) at (c .before .before .before .pre) in omega (arith, n .1 .1 .1)
+
 resized-requires : tie.Need-resized-requires
 resized-requires c κs = search needs
 
 enum-known-e-3 : tie.Need-enum-known-e-3
 enum-known-e-3 c = search needs
+
+cast-resized-5 : tie.Need-cast-resized-5
+cast-resized-5 c = let n = rw (c .before .e3 .given .1) at (c .before .before .before .pre) in omega (arith, n .0)
+
+cast-resized-6 : tie.Need-cast-resized-6
+cast-resized-6 c = let n = rw (c .before .e3 .given .1) at (c .before .before .before .pre) in omega (arith, n .1 .0)
+
+cast-resized-7 : tie.Need-cast-resized-7
+cast-resized-7 c = let n = rw (c .before .e3 .given .1) at (c .before .before .before .pre) in omega (arith, n .1 .1 .0)
+
+cast-resized-8 : tie.Need-cast-resized-8
+cast-resized-8 c = let n = rw (c .before .e3 .given .1) at (c .before .before .before .pre) in omega (arith, n .1 .1 .1)
 
 resized-requires-2 : tie.Need-resized-requires-2
 resized-requires-2 c κs = search needs
@@ -56,11 +108,28 @@ tile-after-spec =
     tie.close
     (tie.spec
     enum-known-e
+    cast-described
+    cast-described-2
+    cast-described-3
+    cast-described-4
+    cast-described-5
+    cast-described-6
+    cast-described-7
+    cast-described-8
+    cast-described-9
     described-requires
     replaced-requires
     enum-known-e-2
+    cast-resized
+    cast-resized-2
+    cast-resized-3
+    cast-resized-4
     resized-requires
     enum-known-e-3
+    cast-resized-5
+    cast-resized-6
+    cast-resized-7
+    cast-resized-8
     resized-requires-2
     enum-told
     enum-told-2
