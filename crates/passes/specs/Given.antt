@@ -1,11 +1,11 @@
 -- What each stage gives: the entry is the first of what is to come, and what is reached is the rest.
 -- Assumes nothing.
-use mathlib.Core.Path.{_≡_, refl, sym, ap, _∙_}
+use mathlib.Core.Path.{_≡_, refl, sym, ap, subst, _∙_}
 use mathlib.Core.List.{List, [], _∷_, _++_}
-use Prim.Native.Nat.{ℕ, suc, _+_, _-_, _*_, _/_, _%_, _^_, _≤_, _<_}
+use Prim.Native.Nat.{ℕ, suc, _+_, _-_, _*_, _/_, _≤_, _<_}
 use native.Mathlib.Omega.{arith}
 use mathlib.Core.Bool.{Bool, true, false, cond}
-use lib.Dec.{eqb, lit<}
+use lib.Dec.{eqb, lit<, lit≤}
 use Rattle.signed.specs.Floor.{modulo-lt}
 use Rattle.signed.specs.Cast.{u16}
 use lib.IntN.{ℤ, pos, negsuc, negℤ, _+ℤ_, _-ℤ_, _*ℤ_}
@@ -13,7 +13,7 @@ use lib.Signed.{_≤ℤ_}
 use Rattle.signed.specs.Diff.{up, dn, zdiff, zparts, zarith}
 use Rattle.object.specs.declared.types.Verdict.the-variants as verdict
 use Rattle.plan.specs.declared.types.Entry.{Entry}
-use Rattle.plan.specs.declared.types.Entry.the-variants.{Tile, Size}
+use Rattle.plan.specs.declared.types.Entry.the-variants.{Size}
 use Rattle.plan.specs.declared.types.Scaled.{Scaled}
 use Rattle.plan.specs.declared.types.Source.{Source}
 use Rattle.plan.specs.declared.types.Walk.{Walk}
@@ -24,7 +24,7 @@ use Rattle.plan.specs.Out.Out.{go, stop}
 use Rattle.plan.specs.Laws.{more-nil}
 use Rattle.plan.specs.Load.{loadOut, loadTile, sourceAddress}
 use Rattle.plan.specs.Next.{cons, ended}
-use Rattle.plan.specs.Sound.{SoundScaled, SoundFirst, entryRows, entryLine, EntryIn}
+use Rattle.plan.specs.Sound.{SoundScaled, SoundFirst, entryRows, entryLine, EntryIn, Narrow}
 use Rattle.tile.specs.declared.load.LoadRequest.{LoadRequest}
 use Rattle.tile.specs.declared.load.LoadRequest.the-variants as request
 use Rattle.tile.specs.Load.{requestOf, rowsIn}
@@ -44,20 +44,34 @@ use Rattle.passes.specs.Loads.{emit-first, emit-plan, then-assoc, after-
 use Rattle.passes.specs.Sound.{SoundWalk, SoundPass, SoundPiece, SoundRect, SoundStart, ClipIn, soundAt, Reaches, Gave, leftAt, leftReached, leftPass, afterPiece}
 use Rattle.passes.specs.Enter.{ended-as}
 
--- the rows and the line of each entry are few
+-- the rows and the line of each entry are few, and what a tile keeps of it is narrow
 plain-in : EntryIn (Size 0 0 0 0 0)
-plain-in = record { rows = omega arith; line = omega arith }
+plain-in = record { rows = omega arith; line = omega arith; narrow = (lit≤ tt, (lit≤ tt, (lit≤ tt, lit≤ tt))) }
 
-tile-in : (i fmt siz line tmem palette cms cmt masks maskt : ℕ) → EntryIn (Tile i fmt siz (line % 2 ^ 16) tmem palette cms cmt masks maskt)
-tile-in i fmt siz line tmem palette cms cmt masks maskt = record { rows = omega arith; line = omega arith }
+size-le : (z : Scaled) → sizeOf z ≤ 255
+size-le z = by (eqb (z .siz) 3)
+  where
+    by : (t : Bool) → cond t 3 2 ≤ 255
+    by true = lit≤ tt
+    by false = lit≤ tt
+
+-- a number cut to 16 bits
+cut-le : (x : ℤ) → u16 x ≤ 65535
+cut-le x = let h = modulo-lt x {m = 65536} (lit< tt) in omega arith
+
+tile7-in : (z : Scaled) (destination : ℤ) → EntryIn (tile7 z destination)
+tile7-in z destination = record { rows = omega arith; line = omega arith; narrow = (lit≤ tt, (size-le z, (omega arith, (cut-le destination, (lit≤ tt, (lit≤ tt, (lit≤ tt, (lit≤ tt, lit≤ tt)))))))) }
+
+tile0-in : (z : Scaled) → SoundScaled z → EntryIn (tile0 z)
+tile0-in z h = record { rows = omega arith; line = omega arith; narrow = (h .fmt, (omega (arith, h .siz), (omega arith, (lit≤ tt, (h .palette, (lit≤ tt, (lit≤ tt, (lit≤ tt, lit≤ tt)))))))) }
 
 image-in : (z : Scaled) (pointer : ℕ) → EntryIn (imageOf z pointer)
-image-in z pointer = record { rows = omega arith; line = omega arith }
+image-in z pointer = record { rows = omega arith; line = omega arith; narrow = tt }
 
 rect-in : (z : Scaled) (w : Walk) (lines : ℕ) → EntryIn (rectOf z w lines)
-rect-in z w lines = record { rows = omega arith; line = omega arith }
+rect-in z w lines = record { rows = omega arith; line = omega arith; narrow = tt }
 
--- the first entry's rows and line
+-- the first entry's rows and line, and that it is narrow, as the size that a refused load has set
 abbrev firstRows : Out (Unit {0}) → ℕ
 firstRows (go [] u) = 0
 firstRows (go (e ∷ es) u) = entryRows e
@@ -67,6 +81,12 @@ abbrev firstLine : Out (Unit {0}) → ℕ
 firstLine (go [] u) = 0
 firstLine (go (e ∷ es) u) = entryLine e
 firstLine (stop es l v) = 0
+
+abbrev firstNarrow : Out (Unit {0}) → Type 0
+firstNarrow (go [] u) = Unit {0}
+firstNarrow (go (e ∷ es) u) = Narrow e
+firstNarrow (stop es [] v) = Unit {0}
+firstNarrow (stop es (e ∷ l) v) = Narrow e
 
 asked-rows : (q : LoadRequest) (i uls ult lrs lrt : ℕ) → firstRows (loadOut q i uls ult lrs lrt) ≡ rowsIn q
 unfolding loadOut
@@ -78,6 +98,11 @@ unfolding loadOut
 asked-line (request.Load words rows stride start length) i uls ult lrs lrt = refl
 asked-line request.Overflow i uls ult lrs lrt = refl
 
+asked-narrow : (q : LoadRequest) (i lrs lrt : ℕ) → lrs ≤ 65535 → lrt ≤ 65535 → firstNarrow (loadOut q i 0 0 lrs lrt)
+unfolding loadOut
+asked-narrow (request.Load words rows stride start length) i lrs lrt a b = (lit≤ tt, (lit≤ tt, (a, b)))
+asked-narrow request.Overflow i lrs lrt a b = (lit≤ tt, (lit≤ tt, (a, b)))
+
 lower-lt : (z : Scaled) (rows : ℤ) → lrtOf z rows < 65536
 lower-lt z rows = by (eqb (z .siz) 3)
   where
@@ -85,13 +110,23 @@ lower-lt z rows = by (eqb (z .siz) 3)
     by true = lit< tt
     by false = modulo-lt (rows *ℤ pos 4 -ℤ pos 1) {m = 65536} (lit< tt)
 
+load-narrow : (z : Scaled) (pointer : ℕ) (rows width : ℤ) → firstNarrow (loadRows z pointer rows width)
+unfolding loadTile
+load-narrow z pointer rows width =
+    let h = lower-lt z rows in
+    asked-narrow (requestOf (sizeOf z) (fieldOf z) pointer 0 0 (lrsOf width) (lrtOf z rows)) 7 (lrsOf width) (lrtOf z rows) (cut-le ((width -ℤ pos 1) *ℤ pos 16)) (omega arith)
+
 load-in : (z : Scaled) (pointer : ℕ) (rows width : ℤ) (e : Entry) → emit e ≡ loadRows z pointer rows width → EntryIn e
 unfolding loadTile
 load-in z pointer rows width e i =
     let q = requestOf (sizeOf z) (fieldOf z) pointer 0 0 (lrsOf width) (lrtOf z rows) in
     let a = ap firstRows i ∙ asked-rows q 7 0 0 (lrsOf width) (lrtOf z rows) in
     let b = ap firstLine i ∙ asked-line q 7 0 0 (lrsOf width) (lrtOf z rows) in
-    record { rows = rw a (rows-in (sizeOf z) (fieldOf z) pointer 0 0 (lrsOf width) (lrtOf z rows) (lower-lt z rows)); line = rw b (omega arith) }
+    record {
+      rows = rw a (rows-in (sizeOf z) (fieldOf z) pointer 0 0 (lrsOf width) (lrtOf z rows) (lower-lt z rows));
+      line = rw b (omega arith);
+      narrow = subst firstNarrow (sym i) (load-narrow z pointer rows width);
+    }
 
 -- an entry in front of a pass
 pass-first : (p : Place) (e : Entry) (o : Out Source) → passFrom p (emit e >> o) ≡ cons e (passFrom p o)
@@ -100,11 +135,11 @@ pass-first p e o = emit-first e o (λ source. drawn (p .scaled) (p .walk) (p .li
 module _ (p : Place) where
   pub give-first : (e : Entry) → e ≡ tile7 (p .scaled) (pos 0) → SoundStart p → Gave (comingScaled stage.First p) (leftAt stage.First p) (next.Entry e (reached.At stage.Second p))
   unfolding comingScaled
-  give-first e i h = (rw i (emit-plan (tile7 (p .scaled) (pos 0)) (emit (tile0 (p .scaled)) >> (emit (Size 0 0 0 0 0) >> passesOf (p .scaled) (p .walk)))), (h, (omega arith, rw i (tile-in _ _ _ _ _ _ _ _ _ _))))
+  give-first e i h = (rw i (emit-plan (tile7 (p .scaled) (pos 0)) (emit (tile0 (p .scaled)) >> (emit (Size 0 0 0 0 0) >> passesOf (p .scaled) (p .walk)))), (h, (omega arith, rw i (tile7-in (p .scaled) (pos 0)))))
 
   pub give-second : (e : Entry) → e ≡ tile0 (p .scaled) → SoundStart p → Gave (comingScaled stage.Second p) (leftAt stage.Second p) (next.Entry e (reached.At (stage.Pass due.Size) p))
   unfolding comingScaled
-  give-second e i h = (rw i (emit-plan (tile0 (p .scaled)) (emit (Size 0 0 0 0 0) >> passesOf (p .scaled) (p .walk))), (h, (omega arith, rw i (tile-in _ _ _ _ _ _ _ _ _ _))))
+  give-second e i h = (rw i (emit-plan (tile0 (p .scaled)) (emit (Size 0 0 0 0 0) >> passesOf (p .scaled) (p .walk))), (h, (omega arith, rw i (tile0-in (p .scaled) (h .scaled)))))
 
   give-size : (r : Reached) → Reaches (planOut (passesOf (p .scaled) (p .walk))) (14 * up (p .walk .«frame_remain»)) r → Gave (comingScaled (stage.Pass due.Size) p) (leftAt (stage.Pass due.Size) p) (next.Entry (Size 0 0 0 0 0) r)
   unfolding comingScaled
@@ -113,7 +148,7 @@ module _ (p : Place) where
   module _ (k : Piece) where
     pub give-tile : (e : Entry) → e ≡ tile7 (p .scaled) (p .part .destination) → SoundPiece p → Gave (comingScaled (stage.Tile k) p) (leftAt (stage.Tile k) p) (next.Entry e (reached.At (stage.Image k) p))
     unfolding comingScaled
-    give-tile e i h = (rw i (pass-first p (tile7 (p .scaled) (p .part .destination)) (partOut p >> afterPart k p)), (h, (omega arith, rw i (tile-in _ _ _ _ _ _ _ _ _ _))))
+    give-tile e i h = (rw i (pass-first p (tile7 (p .scaled) (p .part .destination)) (partOut p >> afterPart k p)), (h, (omega arith, rw i (tile7-in (p .scaled) (p .part .destination)))))
 
     pub give-image : (e : Entry) → e ≡ imageOf (p .scaled) (p .part .pointer) → SoundPiece p → Gave (comingScaled (stage.Image k) p) (leftAt (stage.Image k) p) (next.Entry e (reached.At (stage.Load k) p))
     unfolding comingScaled loadPart
@@ -128,11 +163,11 @@ module _ (p : Place) where
     pub refuse-load : (e : Entry) → stop [] (e ∷ []) verdict.Address ≡ loadRows (p .scaled) (p .part .pointer) (p .part .rows) (p .part .width)
         → Gave (comingScaled (stage.Load k) p) (leftAt (stage.Load k) p) (next.Refused e)
     unfolding comingScaled
-    refuse-load e i = rw (← i)
+    refuse-load e i = (rw (← i), subst firstNarrow (sym i) (load-narrow (p .scaled) (p .part .pointer) (p .part .rows) (p .part .width)))
 
   pub give-last : (e : Entry) (r : Reached) → e ≡ tile7 (p .scaled) (pos 0) → Reaches (passFrom p (afterPart piece.Rest p)) (1 + leftPass p) r → Gave (comingScaled stage.Last p) (leftAt stage.Last p) (next.Entry e r)
   unfolding comingScaled pieceOut
-  give-last e r i g = let l = g .left in (ap (λ (x : Entry). passFrom p (emit x >> advance (p .scaled) (p .walk .source) (p .rows))) (sym i) ∙ pass-first p e (advance (p .scaled) (p .walk .source) (p .rows)) ∙ ap (cons e) (sym (g .is)), (g .sound, (omega arith, rw i (tile-in _ _ _ _ _ _ _ _ _ _))))
+  give-last e r i g = let l = g .left in (ap (λ (x : Entry). passFrom p (emit x >> advance (p .scaled) (p .walk .source) (p .rows))) (sym i) ∙ pass-first p e (advance (p .scaled) (p .walk .source) (p .rows)) ∙ ap (cons e) (sym (g .is)), (g .sound, (omega arith, rw i (tile7-in (p .scaled) (pos 0)))))
 
   give-rect : (e : Entry) (n : Walk) (r : Reached) → e ≡ rectOf (p .scaled) (p .walk) (p .lines) → n ≡ afterDraw (p .scaled) (p .walk) (drawOf (p .walk)) (p .lines) (p .next) → SoundRect p
       → Reaches (planOut (passesOf (p .scaled) n)) (14 * up (n .«frame_remain»)) r → Gave (comingScaled (stage.Pass due.Rect) p) (leftAt (stage.Pass due.Rect) p) (next.Entry e r)

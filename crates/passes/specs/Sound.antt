@@ -18,7 +18,7 @@ use Rattle.plan.specs.declared.types.Clip.{Clip}
 use Rattle.plan.specs.Next.{cons, ended}
 use Rattle.plan.specs.Out.{Out, Plan, emit}
 use Rattle.plan.specs.Out.Out.{stop}
-use Rattle.plan.specs.Sound.{SoundScaled, EntryIn}
+use Rattle.plan.specs.Sound.{SoundScaled, EntryIn, Narrow}
 use Rattle.plan.specs.Scaled.{drawOf, leftAfter, linesOf, rowsOf, afterDraw}
 use Rattle.passes.specs.declared.types.Part.{Part}
 use Rattle.passes.specs.declared.types.Piece.{Piece}
@@ -158,7 +158,7 @@ loadedOut (loaded.Refused e) = stop [] (e ∷ []) verdict.Address
 -- what a step answers is the first of the plan, and what it reaches is the rest
 abbrev pub Gave : Plan → ℕ → ScaledNext → Type 0
 Gave plan n (next.Entry e r) = (plan ≡ cons e (comingReached r)) × (soundReached r × ((suc (leftReached r) ≤ n) × EntryIn e))
-Gave plan n (next.Refused e) = plan ≡ ended (e ∷ []) verdict.Address
+Gave plan n (next.Refused e) = (plan ≡ ended (e ∷ []) verdict.Address) × Narrow e
 
 -- a clipped frame that is not empty
 pub record ClipIn (c : Clip) : Type 0 where

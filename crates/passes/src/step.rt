@@ -4,7 +4,7 @@ ghost use mathlib.Core.Bool.{cond};
 ghost use Prim.Native.Nat.{_+_, _*_, _/_, _≤_, _<_, _^_};
 ghost use lib.Dec.{eqb};
 ghost use lib.IntN.{pos, _-ℤ_};
-ghost use Rattle.signed.specs.Cast.{u16};
+ghost use Rattle.signed.specs.Cast.{u16, i16};
 ghost use Rattle.object.specs.Range.{Within};
 ghost use Rattle.plan.specs.Out.{planOut};
 ghost use Rattle.plan.specs.Sound.{SoundScaled, SoundFirst};
@@ -36,7 +36,7 @@ use plan::Walk;
 use tile::LoadRequest;
 
 // The loads' texels are of 16 bits, or of 32 for siz 3.
-fn load_size(siz: u8) -> u8
+fn load_size(siz: u64) -> u64
     ensures { λ r. ⌜ (r ≡ cond (eqb siz 3) 3 2) × (r ≤ 3) ⌝ }
 {
     if siz == 3 { 3 } else { 2 }
@@ -49,8 +49,8 @@ fn tile7(z: Scaled, destination: i64) -> Entry
         index: 7,
         fmt: 0,
         siz: load_size(z.siz),
-        line: (z.line % 65536) as u16,
-        tmem: signed::low16(destination),
+        line: z.line % 65536,
+        tmem: signed::low16(destination) as u64,
         palette: 0,
         cms: 0,
         cmt: 0,
@@ -66,7 +66,7 @@ fn tile0(z: Scaled) -> Entry
         index: 0,
         fmt: z.fmt,
         siz: z.siz,
-        line: (z.line % 65536) as u16,
+        line: z.line % 65536,
         tmem: 0,
         palette: z.palette,
         cms: 1,
@@ -91,7 +91,7 @@ fn image(z: Scaled, pointer: u64) -> Entry
     Entry::Image {
         fmt: 0,
         siz: load_size(z.siz),
-        width: width_field(z.stride),
+        width: width_field(z.stride) as u64,
         address: pointer,
     }
 }
@@ -124,7 +124,8 @@ fn load(z: Scaled, q: Part) -> Loaded
     let lrs = right(q.width);
     let lrt = lower(z, q.rows);
     let field = width_field(z.stride);
-    match tile::load_request(load_size(z.siz), field, q.pointer, 0, 0, lrs, lrt) {
+    let siz = load_size(z.siz) as u8;
+    match tile::load_request(siz, field, q.pointer, 0, 0, lrs, lrt) {
         LoadRequest::Load {
             words,
             rows,
@@ -135,8 +136,8 @@ fn load(z: Scaled, q: Part) -> Loaded
             index: 7,
             uls: 0,
             ult: 0,
-            lrs,
-            lrt,
+            lrs: lrs as u64,
+            lrt: lrt as u64,
             words,
             rows,
             stride,
@@ -147,10 +148,17 @@ fn load(z: Scaled, q: Part) -> Loaded
             index: 7,
             uls: 0,
             ult: 0,
-            lrs,
-            lrt,
+            lrs: lrs as u64,
+            lrt: lrt as u64,
         }),
     }
+}
+
+// A texture coordinate or a step, cut to its 16 bits.
+fn short(x: i64) -> i64
+    ensures { λ r. ⌜ r ≡ i16 x ⌝ }
+{
+    signed::wide(signed::signed16(x))
 }
 
 // The rectangle of a pass, with the image row before its loads.
@@ -169,10 +177,10 @@ fn rect(p: Place) -> Entry
         uly: y * 4,
         lrx: z.x_end,
         lry: (y + p.lines) * 4,
-        uls: signed::signed16(z.s),
-        ult: signed::signed16(w.t as i64),
-        dsdx: signed::signed16(z.scale_w as i64),
-        dtdy: signed::signed16(z.scale_h as i64),
+        uls: short(z.s),
+        ult: short(w.t as i64),
+        dsdx: short(z.scale_w as i64),
+        dtdy: short(z.scale_h as i64),
         row: signed::rem_euclid(rows, z.source_rows),
     }
 }

@@ -62,7 +62,9 @@ module _ (bg : ObjBg) (mode address : ℕ) (c : Clip) (i : Start) (u : Usable bg
       let k = capacity-le (bg .«image_fmt») (bg .«image_siz») in
       let r = rows-le (scaledCapacity (bg .«image_fmt») (bg .«image_siz»)) (scaledOf bg mode address c i .line) (scaledOf bg mode address c i .bilerp) k in
       record {
+        fmt = omega (arith, u .fmt);
         siz = u .siz;
+        palette = omega arith;
         line = omega arith;
         line′ = line-le (scaledCapacity (bg .«image_fmt») (bg .«image_siz»)) _ (scaledOf bg mode address c i .bilerp) k (g .1 .0);
         image-rows = g .1 .0;

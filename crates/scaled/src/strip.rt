@@ -168,9 +168,9 @@ pub fn scaled_of(bg: ObjBg, mode: u32, address: u64, c: Clip, i: Start) -> Scale
     let palette = signed::low8(bg.image_pal);
     let x_end = c.x + c.width;
     Scaled {
-        fmt: bg.image_fmt,
-        siz: bg.image_siz,
-        palette,
+        fmt: bg.image_fmt as u64,
+        siz: bg.image_siz as u64,
+        palette: palette as u64,
         address,
         x: c.x,
         x_end,

@@ -23,6 +23,9 @@ width-field-requires c κs = c .before .before .before .before .pre .0 .stride�
 load-size-requires : tie.Need-load-size-requires
 load-size-requires c κs = search needs
 
+cast-siz : tie.Need-cast-siz
+cast-siz c = search needs
+
 load-request-requires : tie.Need-load-request-requires
 load-request-requires c κs = c .load-size .ensures .1
 
@@ -39,8 +42,20 @@ request-is c = rw (c .before .before .width-field .ensures, c .before .load-size
 enum-known-words : tie.Need-enum-known-words
 enum-known-words c = search needs
 
+cast-t15 : tie.Need-cast-t15
+cast-t15 c = search needs
+
+cast-t16 : tie.Need-cast-t16
+cast-t16 c = search needs
+
 enum-told : tie.Need-enum-told
 enum-told c = search needs
+
+cast-t18 : tie.Need-cast-t18
+cast-t18 c = search needs
+
+cast-t19 : tie.Need-cast-t19
+cast-t19 c = search needs
 
 returns : tie.Need-returns
 unfolding loadTile loadOut
@@ -60,8 +75,13 @@ load-spec =
     lower-requires
     width-field-requires
     load-size-requires
+    cast-siz
     load-request-requires
     enum-known-words
+    cast-t15
+    cast-t16
     enum-told
+    cast-t18
+    cast-t19
     returns
     returns-2)

@@ -3,8 +3,7 @@ use borrow.Author.Needs.{needs}
 use mathlib.Core.Path.{_≡_, refl, sym, ap, _∙_}
 use lib.Dec.{lit≤, lit<}
 use lib.IntN.{ℤ, pos, negℤ, _+ℤ_, _-ℤ_, _*ℤ_}
-use mir.Syntax.{w16, w64}
-use mir.ValLaws.{toZ-ofZ}
+use mir.Syntax.{w64}
 use mir.Val.{toZ, ofZ}
 use Rattle.signed.specs.Word.{rd, rdn, rk}
 use native.Mathlib.Omega.{arith}
@@ -40,26 +39,26 @@ add-t9 c = let s = c .before .before .before .before .before .before .before in 
 mul-t10 : tie.Need-mul-t10
 mul-t10 c = let s = c .before .before .before .before .before .before .before in record { fits = omega (arith, s .pre .walk .frame-y, lines-low (s .args .p) (s .pre)) }
 
-signed16-requires : tie.Need-signed16-requires
-signed16-requires c κs = search needs
+short-requires : tie.Need-short-requires
+short-requires c κs = search needs
 
-cast-signed16 : tie.Need-cast-signed16
-cast-signed16 c = search needs
+cast-short : tie.Need-cast-short
+cast-short c = search needs
 
-signed16-requires-2 : tie.Need-signed16-requires-2
-signed16-requires-2 c κs = search needs
+short-requires-2 : tie.Need-short-requires-2
+short-requires-2 c κs = search needs
 
-cast-signed16-2 : tie.Need-cast-signed16-2
-cast-signed16-2 c = let h = c .before .before .before .before .before .before .before .before .before .before .before .before .pre .scaled .scale-w′ in record { sfits = omega arith }
+cast-short-2 : tie.Need-cast-short-2
+cast-short-2 c = let h = c .before .before .before .before .before .before .before .before .before .before .before .before .pre .scaled .scale-w′ in record { sfits = omega arith }
 
-signed16-requires-3 : tie.Need-signed16-requires-3
-signed16-requires-3 c κs = search needs
+short-requires-3 : tie.Need-short-requires-3
+short-requires-3 c κs = search needs
 
-cast-signed16-3 : tie.Need-cast-signed16-3
-cast-signed16-3 c = let h = c .before .before .before .before .before .before .before .before .before .before .before .before .before .before .pre .scaled .scale-h′ in record { sfits = omega arith }
+cast-short-3 : tie.Need-cast-short-3
+cast-short-3 c = let h = c .before .before .before .before .before .before .before .before .before .before .before .before .before .before .pre .scaled .scale-h′ in record { sfits = omega arith }
 
-signed16-requires-4 : tie.Need-signed16-requires-4
-signed16-requires-4 c κs = search needs
+short-requires-4 : tie.Need-short-requires-4
+short-requires-4 c κs = search needs
 
 rem-euclid-requires : tie.Need-rem-euclid-requires
 rem-euclid-requires c κs = let h = c .before .before .before .before .before .before .before .before .before .before .before .before .before .before .before .pre .scaled in (h .source-rows, omega (arith, h .source-rows′))
@@ -68,10 +67,10 @@ returns : tie.Need-returns
 returns c =
     let s = c .before .before .before .before .before .before .before .before .before .before .before .before .before .before .before .before in
     let z = s .args .p .scaled in
-    let us = toZ-ofZ w16 (c .before .before .before .before .before .before .before .signed16 .result) (record { sfits = c .before .before .before .before .before .before .before .signed16 .ok }) ∙ (rw (rk (z .s) (c .before .before .before .before .before .before .before .before .struct-told2 .given .1 .1 .1 .1 .1 .1 .1 .1 .1 .1 .1 .1 .1 .1 .1 .1 .0 .1)) at (c .before .before .before .before .before .before .before .signed16 .ensures)) in
-    let ut = toZ-ofZ w16 (c .before .before .before .before .before .signed162 .result) (record { sfits = c .before .before .before .before .before .signed162 .ok }) ∙ (rw (rdn (s .args .p .walk .t) (cast-signed16 (c .before .before .before .before .before .before) .sfits)) at (c .before .before .before .before .before .signed162 .ensures)) in
-    let dx = toZ-ofZ w16 (c .before .before .before .signed163 .result) (record { sfits = c .before .before .before .signed163 .ok }) ∙ (rw (rdn (z .«scale_w») (cast-signed16-2 (c .before .before .before .before) .sfits)) at (c .before .before .before .signed163 .ensures)) in
-    let dy = toZ-ofZ w16 (c .before .signed164 .result) (record { sfits = c .before .signed164 .ok }) ∙ (rw (rdn (z .«scale_h») (cast-signed16-3 (c .before .before) .sfits)) at (c .before .signed164 .ensures)) in
+    let us = rk (c .before .before .before .before .before .before .before .short .result) (c .before .before .before .before .before .before .before .short .ok) ∙ (rw (rk (z .s) (c .before .before .before .before .before .before .before .before .struct-told2 .given .1 .1 .1 .1 .1 .1 .1 .1 .1 .1 .1 .1 .1 .1 .1 .1 .0 .1)) at (c .before .before .before .before .before .before .before .short .ensures)) in
+    let ut = rk (c .before .before .before .before .before .short2 .result) (c .before .before .before .before .before .short2 .ok) ∙ (rw (rdn (s .args .p .walk .t) (cast-short (c .before .before .before .before .before .before) .sfits)) at (c .before .before .before .before .before .short2 .ensures)) in
+    let dx = rk (c .before .before .before .short3 .result) (c .before .before .before .short3 .ok) ∙ (rw (rdn (z .«scale_w») (cast-short-2 (c .before .before .before .before) .sfits)) at (c .before .before .before .short3 .ensures)) in
+    let dy = rk (c .before .short4 .result) (c .before .short4 .ok) ∙ (rw (rdn (z .«scale_h») (cast-short-3 (c .before .before) .sfits)) at (c .before .short4 .ensures)) in
     let r = rw (rd (sub-rows (c .before .before .before .before .before .before .before .before .before .before)), rdn (z .«source_rows») (cast-rows (c .before .before .before .before .before .before .before .before .before .before .before .before) .sfits), remain-is s) at (c .rem-euclid .ensures) in
     rw (us, ut, dx, dy, r)
 
@@ -84,12 +83,12 @@ rect-spec =
     mul-t8
     add-t9
     mul-t10
-    signed16-requires
-    cast-signed16
-    signed16-requires-2
-    cast-signed16-2
-    signed16-requires-3
-    cast-signed16-3
-    signed16-requires-4
+    short-requires
+    cast-short
+    short-requires-2
+    cast-short-2
+    short-requires-3
+    cast-short-3
+    short-requires-4
     rem-euclid-requires
     returns)

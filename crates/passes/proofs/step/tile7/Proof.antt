@@ -8,14 +8,14 @@ use Rattle.passes.proofs.step.tile7.Tie as tie
 load-size-requires : tie.Need-load-size-requires
 load-size-requires c κs = search needs
 
-cast-t5 : tie.Need-cast-t5
-cast-t5 c = search needs
-
 low16-requires : tie.Need-low16-requires
 low16-requires c κs = search needs
+
+cast-t6 : tie.Need-cast-t6
+cast-t6 c = search needs
 
 returns : tie.Need-returns
 returns c = rw (rw (rd (c .before .before .before .fits .destination)) at (c .low16 .ensures), c .before .before .load-size .ensures .0)
 
 pub tile7-spec : {M : Type 1} → statement M
-tile7-spec = tie.close (tie.spec load-size-requires cast-t5 low16-requires returns)
+tile7-spec = tie.close (tie.spec load-size-requires low16-requires cast-t6 returns)

@@ -29,21 +29,30 @@ low8-requires c κs = search needs
 add-x-end : tie.Need-add-x-end
 add-x-end c = search needs
 
+cast-t11 : tie.Need-cast-t11
+cast-t11 c = search needs
+
+cast-t12 : tie.Need-cast-t12
+cast-t12 c = search needs
+
+cast-t13 : tie.Need-cast-t13
+cast-t13 c = search needs
+
 abbrev scaled : tie.After-struct-told → Scaled
 scaled c =
-    let a = c .before .before .before .before .before .before .args in
-    let r = c .before .before .before .before .rows-of .result in
-    let k = c .before .before .before .columns-of .result in
+    let a = c .before .before .before .before .before .before .before .before .args in
+    let r = c .before .before .before .before .before .before .rows-of .result in
+    let k = c .before .before .before .before .before .columns-of .result in
     record {
       fmt = a .bg .«image_fmt»;
       siz = a .bg .«image_siz»;
-      palette = c .before .before .low8 .result;
+      palette = c .before .before .before .before .low8 .result;
       address = a .address;
       x = a .c .x;
       «x_end» = a .c .x + a .c .width;
       «scale_w» = a .bg .«scale_w» .0;
       «scale_h» = a .bg .«scale_h» .0;
-      bilerp = c .before .before .before .before .before .bilerp-of .result;
+      bilerp = c .before .before .before .before .before .before .before .bilerp-of .result;
       split = k .split;
       «source_rows» = r .«source_rows»;
       line = r .line;
@@ -54,20 +63,20 @@ scaled c =
       s = toZ w64 (ofZ w64 (k .s));
     }
 
-s-is : (c : tie.After-struct-told) → (scaled c) .s ≡ sOf (c .before .before .before .before .before .before .args .c .flip) (c .before .before .before .before .before .before .args .i .«image_x» % shiftOf (c .before .before .before .before .before .before .args .bg .«image_siz»)) (sampledBy (c .before .before .before .before .before .before .args .c .width) (c .before .before .before .before .before .before .args .bg .«scale_w» .0))
-s-is c = rk (c .before .before .before .columns-of .result .s) (c .struct-told .given .1 .1 .1 .0 .1) ∙ c .before .before .before .columns-of .ensures .s
+s-is : (c : tie.After-struct-told) → (scaled c) .s ≡ sOf (c .before .before .before .before .before .before .before .before .args .c .flip) (c .before .before .before .before .before .before .before .before .args .i .«image_x» % shiftOf (c .before .before .before .before .before .before .before .before .args .bg .«image_siz»)) (sampledBy (c .before .before .before .before .before .before .before .before .args .c .width) (c .before .before .before .before .before .before .before .before .args .bg .«scale_w» .0))
+s-is c = rk (c .before .before .before .before .before .columns-of .result .s) (c .struct-told .given .1 .1 .1 .0 .1) ∙ c .before .before .before .before .before .columns-of .ensures .s
 
-scaled-is : (c : tie.After-struct-told) → scaled c ≡ scaledOf (c .before .before .before .before .before .before .args .bg) (c .before .before .before .before .before .before .args .mode) (c .before .before .before .before .before .before .args .address) (c .before .before .before .before .before .before .args .c) (c .before .before .before .before .before .before .args .i)
+scaled-is : (c : tie.After-struct-told) → scaled c ≡ scaledOf (c .before .before .before .before .before .before .before .before .args .bg) (c .before .before .before .before .before .before .before .before .args .mode) (c .before .before .before .before .before .before .before .before .args .address) (c .before .before .before .before .before .before .before .before .args .c) (c .before .before .before .before .before .before .before .before .args .i)
 unfolding scaledOf shiftOf maxSlice lineOf splitOf sOf
 scaled-is c =
-    let a = c .before .before .before .before .before .before .args in
-    let l = c .before .before .before .before .before .bilerp-of .ensures .0 in
-    let r = rw l at (c .before .before .before .before .rows-of .ensures) in
-    let k = rw l at (c .before .before .before .columns-of .ensures) in
+    let a = c .before .before .before .before .before .before .before .before .args in
+    let l = c .before .before .before .before .before .before .before .bilerp-of .ensures .0 in
+    let r = rw l at (c .before .before .before .before .before .before .rows-of .ensures) in
+    let k = rw l at (c .before .before .before .before .before .columns-of .ensures) in
     λ j. record {
       fmt = a .bg .«image_fmt»;
       siz = a .bg .«image_siz»;
-      palette = c .before .before .low8 .ensures j;
+      palette = c .before .before .before .before .low8 .ensures j;
       address = a .address;
       x = a .c .x;
       «x_end» = a .c .x + a .c .width;
@@ -86,7 +95,7 @@ scaled-is c =
 
 returns : tie.Need-returns
 returns c =
-    let s = c .before .before .before .before .before .before in
+    let s = c .before .before .before .before .before .before .before .before in
     let i = scaled-is c in
     record { is = i; sound = λ e. subst SoundScaled (sym i) (scaled-sound (s .args .bg) (s .args .mode) (s .args .address) (s .args .c) (s .args .i) (s .pre .0) (s .pre .1 .0) (s .pre .1 .1) (sym (ap slicesBad i) ∙ e)) }
 
@@ -99,4 +108,7 @@ scaled-of-spec =
     columns-of-requires
     low8-requires
     add-x-end
+    cast-t11
+    cast-t12
+    cast-t13
     returns)
