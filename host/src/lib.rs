@@ -40,6 +40,7 @@
 mod bank;
 mod entry;
 mod ffi;
+mod library;
 mod plan;
 mod request;
 mod verdict;

@@ -32,7 +32,7 @@ use Rattle.plan.specs.Out.Out.{go, stop}
 use Rattle.plan.specs.Load.{sourceAddress}
 use Rattle.plan.specs.Scaled.{tile7, clipOf, startOf, scaledOf, firstOf, firstPass, drawOf, advance, load1cyc, pass, passes, scaledPlan, scaledEmpty, slicesBad}
 use Rattle.plan.specs.Whole.{planOf, planWith, checkedOut, scaledOut}
-use Rattle.plan.specs.Laws.{more-nil, passes-on, passes-end}
+use Rattle.plan.specs.Laws.{above, more-nil, passes-on, passes-end}
 use Rattle.plan.specs.Demand.{linesIn}
 use Rattle.drift.specs.Plain.{Plain, Refuses, Quiet, quiet-address, quiet-advance, quiet-rows}
 use Rattle.drift.specs.Walk.{passLeft, passLines, passRows, passRect, drawnNext, idleNext, idle-is, draw-is, lines-apart}
@@ -100,9 +100,6 @@ some-left f d h = by (ltZ (pos f -ℤ pos d) (pos 0)) refl
     by true t = let g = simp zdiff at t in absurd (omega zarith)
     by false t = refl
 
-left-over : (f d : ℕ) → d < f → pos f -ℤ pos d ≡ pos (f - d)
-left-over f d h = simp zdiff (omega zarith)
-
 nothing-left : (f d : ℕ) → f ≤ d → ltZ (pos 0) (pos f -ℤ pos d) ≡ false
 nothing-left f d h = by (pos f -ℤ pos d) (simp zdiff (simp zparts (omega zarith)))
   where
@@ -142,7 +139,7 @@ module _ (m : ℕ) (z : Scaled) (w : Walk) (f c : ℕ) (r : 16 ≤ z .«frame_ro
       by s true u =
           let h : c / 1024 < f = ltb-true (c / 1024) f u in
           drawn-more (passRect z w ∷ []) (c / 1024) (f - c / 1024) f (passes m z (drawnNext z w s)) (rect-lines z w ∙ lines-are ∙ some-left f (c / 1024) h) (omega arith)
-          (rec (drawnNext z w s) (f - c / 1024) (c % 1024 + z .«frame_rows») (left-is ∙ left-over f (c / 1024) h) (ap (λ (v : ℤ). pos (modulo v 1024) +ℤ pos (z .«frame_rows»)) q) (omega arith) (omega arith))
+          (rec (drawnNext z w s) (f - c / 1024) (c % 1024 + z .«frame_rows») (left-is ∙ above f (c / 1024) h) (ap (λ (v : ℤ). pos (modulo v 1024) +ℤ pos (z .«frame_rows»)) q) (omega arith) (omega arith))
       by s false u =
           let h : f ≤ c / 1024 = ltb-false (c / 1024) f u in
           drawn-more (passRect z w ∷ []) f 0 f (passes m z (drawnNext z w s)) (rect-lines z w ∙ lines-are ∙ all-left f (c / 1024) h) (omega arith)

@@ -12,6 +12,7 @@ use lib.Signed.{ltZ}
 use mir.Syntax.{w16, w32}
 use mir.Val.{toZ}
 use mir.ValLaws.{toZ-fits}
+use Rattle.signed.specs.Bound.{or-false, some}
 use Rattle.signed.specs.Diff.{zarith}
 use Rattle.object.specs.declared.types.ObjBg.{ObjBg}
 use Rattle.object.specs.declared.types.Scissor.{Scissor}
@@ -66,13 +67,9 @@ abbrev Falses : List Bool → Type 0
 Falses [] = Unit {0}
 Falses (t ∷ ts) = (t ≡ false) × Falses ts
 
-either : (a b : Bool) → (a || b) ≡ false → (a ≡ false) × (b ≡ false)
-either true b e = absurd (true≢false e)
-either false b e = (refl, e)
-
 falses : (ts : List Bool) → any ts ≡ false → Falses ts
 falses [] e = tt
-falses (t ∷ ts) e = let h = either t (any ts) e in (h .0, falses ts (h .1))
+falses (t ∷ ts) e = let h = or-false t (any ts) e in (h .0, falses ts (h .1))
 
 -- ---- the checks
 
@@ -102,7 +99,7 @@ through-scaled K r bg f = refused-or K r (any (objectFaults bg)) verdict.Object 
 
 edge-in : (z : ℤ) → edgeBad z ≡ false → Below 10 z
 edge-in z e =
-    let h = either (ltZ z (pos 0)) (ltZ (pos 1023) z) e in
+    let h = or-false (ltZ z (pos 0)) (ltZ (pos 1023) z) e in
     let l = h .0 in
     let m = h .1 in
     record { low = omega zarith; high = omega zarith }
@@ -112,9 +109,6 @@ unfolding scissorBad
 edges-in s e =
     let h = falses (edgeBad (s .ulx) ∷ edgeBad (s .uly) ∷ edgeBad (s .lrx) ∷ edgeBad (s .lry) ∷ []) e in
     record { ulx = edge-in _ (h .0); uly = edge-in _ (h .1 .0); lrx = edge-in _ (h .1 .1 .0); lry = edge-in _ (h .1 .1 .1 .0) }
-
-some : (n : ℕ) → eqb n 0 ≡ false → 1 ≤ n
-some n e = let h = eqb-false n 0 e in omega arith
 
 passed : (bg : ObjBg) (s : Scissor) → InRange bg → scissorBad s ≡ false → any (objectFaults bg) ≡ false → Passed bg s
 unfolding objectFaults

@@ -143,7 +143,7 @@ none-above (negsuc n) e = refl
 below : (f d : ℕ) → f ≤ d → ltZ (pos 0) (pos f -ℤ pos d) ≡ false
 below f d h = none-above (pos f -ℤ pos d) (simp zdiff (simp zparts (omega zarith)))
 
-above : (f d : ℕ) → d < f → pos f -ℤ pos d ≡ pos (f - d)
+pub above : (f d : ℕ) → d < f → pos f -ℤ pos d ≡ pos (f - d)
 above f d h = simp zdiff (omega zarith)
 
 -- what a pass leaves, by whether it draws; `rec` is the claim for the passes after it

@@ -10,6 +10,7 @@ use lib.Dec.{ltb, eqb}
 use lib.ListN.{getD}
 use lib.IntN.{pos, negsuc}
 use mir.Val.{sel}
+use Rattle.signed.specs.Bound.{or-false}
 use Rattle.object.specs.declared.types.Scissor.{Scissor}
 use Rattle.object.specs.declared.types.Verdict.the-variants as verdict
 use Rattle.object.specs.declared.types.Checked.the-variants as checked
@@ -40,10 +41,6 @@ edge-exact : (t : Bool) (n : ℕ) → ltb n 1024 ≡ t → edgeBad (edgeIn n) �
 edge-exact true n e b = sym (edge-small n (ltb-true n 1024 e))
 edge-exact false n e b = absurd (true≢false (sym (edge-large n (ltb-false n 1024 e)) ∙ b))
 
-either : (a b : Bool) → (a || b) ≡ false → (a ≡ false) × (b ≡ false)
-either true b e = absurd (true≢false e)
-either false b e = (refl, e)
-
 module _ (ws : List ℕ) where
   scissor-alike : scissorBad (scissorKept ws) ≡ scissorBad (scissorIn ws)
   unfolding scissorBad
@@ -52,10 +49,10 @@ module _ (ws : List ℕ) where
   scissor-exact : scissorBad (scissorIn ws) ≡ false → scissorKept ws ≡ scissorIn ws
   unfolding scissorBad
   scissor-exact e =
-      let a = either _ _ e in
-      let b = either _ _ (a .1) in
-      let c = either _ _ (b .1) in
-      let d = either _ _ (c .1) in
+      let a = or-false _ _ e in
+      let b = or-false _ _ (a .1) in
+      let c = or-false _ _ (b .1) in
+      let d = or-false _ _ (c .1) in
       λ i. record { ulx = edge-exact _ (getD ws 1 0) refl (a .0) i; uly = edge-exact _ (getD ws 2 0) refl (b .0) i; lrx = edge-exact _ (getD ws 3 0) refl (c .0) i; lry = edge-exact _ (getD ws 4 0) refl (d .0) i }
 
 -- ---- plans

@@ -11,7 +11,7 @@ use Rattle.tile.specs.declared.bank.Tile.{Tile}
 use Rattle.plan.specs.declared.types.Entry.{Entry}
 use Rattle.plan.specs.Run.{entryWords}
 use Rattle.words.specs.Eleven.{eleven}
-use Rattle.words.specs.Host.{tileNumbers, tilesNumbers}
+use Rattle.plan.specs.Check.{tileNumbers, tilesNumbers}
 
 -- a turn of the loop that puts the words of w into d
 module _ (d : List ℕ) (at : ℕ) (w : List ℕ) (j : ℕ) (room : at + length w ≤ length d) (xs : List ℕ) (so-far : xs ≡ paste d at w j) where

@@ -9,14 +9,7 @@ use Rattle.object.specs.Check.{verdictNumber}
 use Rattle.tile.specs.declared.bank.Tile.{Tile}
 use Rattle.tile.specs.declared.bank.Bank.{Bank}
 use Rattle.plan.specs.declared.types.End.{End}
-
-unfoldable pub tileNumbers : Tile → List ℕ
-tileNumbers t =
-    t .uls ∷ t .ult ∷ t .lrs ∷ t .lrt ∷ t .width ∷ t .height ∷ t .fmt ∷ t .siz ∷ t .palette ∷ t .cms ∷ t .cmt ∷ t .masks ∷ t .maskt ∷ t .shifts ∷ t .shiftt ∷ t .line ∷ t .«tmem_addr» ∷ []
-
-unfoldable pub tilesNumbers : List Tile → List ℕ
-tilesNumbers [] = []
-tilesNumbers (t ∷ ts) = tileNumbers t ++ tilesNumbers ts
+use Rattle.plan.specs.Check.{tileNumbers, tilesNumbers}
 
 unfoldable pub bankNumbers : Bank → List ℕ
 bankNumbers b = tilesNumbers (b .tiles)

@@ -1,7 +1,8 @@
 -- `tile::load::bytes_per_row` meets its contract: the product of two bounded numbers is bounded. Assumes nothing.
 use Prim.Native.Nat.{_+_}
 use native.Mathlib.Omega.{arith}
-use Rattle.tile.proofs.Product.{fits-mul, most-mul}
+use Rattle.signed.specs.Bound.{fits-mul}
+use Rattle.tile.proofs.Product.{most-mul}
 use borrow.Author.Needs.{needs}
 use Rattle.tile.proofs.load.bytes_per_row.Statement.{statement}
 use Rattle.tile.proofs.load.bytes_per_row.Tie as tie

@@ -3,7 +3,8 @@ use Rattle.tile.specs.Load.{requestOf}
 use Prim.Native.Nat.{_+_, _-_, _^_, _<_, _≤_}
 use borrow.Author.Tests.{lt-ltb, le-ltb}
 use native.Mathlib.Omega.{arith}
-use Rattle.tile.proofs.Product.{fits-mul, most-mul}
+use Rattle.signed.specs.Bound.{fits-mul}
+use Rattle.tile.proofs.Product.{most-mul}
 use borrow.Author.Needs.{needs}
 use Rattle.tile.proofs.load.load_request.Statement.{statement}
 use Rattle.tile.proofs.load.load_request.Tie as tie

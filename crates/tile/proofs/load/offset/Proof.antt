@@ -2,7 +2,8 @@
 use mathlib.Core.Path.{refl}
 use Prim.Native.Nat.{_/_}
 use native.Mathlib.Omega.{arith}
-use Rattle.tile.proofs.Product.{fits-mul, most-mul}
+use Rattle.signed.specs.Bound.{fits-mul}
+use Rattle.tile.proofs.Product.{most-mul}
 use borrow.Author.Needs.{needs}
 use Rattle.tile.proofs.load.offset.Statement.{statement}
 use Rattle.tile.proofs.load.offset.Tie as tie

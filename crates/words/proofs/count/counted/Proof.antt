@@ -1,5 +1,5 @@
 -- `words::count::counted` meets its contract: each arm is the definition's clause; rows × line is below 2^30. Assumes nothing.
-use Rattle.tile.proofs.Product.{fits-mul}
+use Rattle.signed.specs.Bound.{fits-mul}
 use borrow.Author.Tests.{eq-eqb, ne-eqb}
 use Rattle.words.specs.Counts.{countedOf}
 use borrow.Author.Needs.{needs}

@@ -1,13 +1,8 @@
 -- `words::entry::store_entry` meets its contract: each arm is the definition's clause. Assumes nothing.
 use Rattle.plan.specs.Run.{entryWords}
 use mathlib.Core.Path.{_≡_, ap, _∙_}
-use Prim.Native.Nat.{_^_, _<_}
-use lib.IntN.{ℤ}
-use lib.Signed.{mag}
-use mir.Syntax.{w64}
-use mir.Val.{toZ, ofZ}
-use mir.ValLaws.{toZ-ofZ}
 use Rattle.signed.specs.Cast.{word}
+use Rattle.signed.specs.Word.{rk}
 use borrow.Author.Needs.{needs}
 use Rattle.words.proofs.entry.store_entry.Statement.{statement}
 use Rattle.words.proofs.entry.store_entry.Tie as tie
@@ -85,20 +80,16 @@ returns-4 c = rw (c .before .before .before .before .before .e4 .given .1) (c .b
 same-length-5 : tie.Need-same-length-5
 same-length-5 c = search needs
 
--- a signed number as the call reads it
-read64 : (z : ℤ) → mag z < 2 ^ 63 → toZ w64 (ofZ w64 z) ≡ z
-read64 z h = toZ-ofZ w64 z (record { sfits = h })
-
 returns-5 : tie.Need-returns-5
 unfolding entryWords
 returns-5 c =
     let e = c .before .before .before .before .before .before .before .before .before .e5 .given in
     let v = e .0 .1 .1 .1 .1 .1 in
     let t = c .before .before .before .before .before .before .before .before .known-told5 .given .1 .1 .1 .1 .1 in
-    let n1 = c .before .before .before .before .before .before .before .word-of .ensures ∙ ap word (read64 (v .0) (t .0 .1)) in
-    let n2 = c .before .before .before .before .before .before .word-of2 .ensures ∙ ap word (read64 (v .1 .0) (t .1 .0 .1)) in
-    let n3 = c .before .before .before .before .before .word-of3 .ensures ∙ ap word (read64 (v .1 .1 .0) (t .1 .1 .0 .1)) in
-    let n4 = c .before .before .before .before .word-of4 .ensures ∙ ap word (read64 (v .1 .1 .1 .0) (t .1 .1 .1 .0 .1)) in
+    let n1 = c .before .before .before .before .before .before .before .word-of .ensures ∙ ap word (rk (v .0) (t .0 .1)) in
+    let n2 = c .before .before .before .before .before .before .word-of2 .ensures ∙ ap word (rk (v .1 .0) (t .1 .0 .1)) in
+    let n3 = c .before .before .before .before .before .word-of3 .ensures ∙ ap word (rk (v .1 .1 .0) (t .1 .1 .0 .1)) in
+    let n4 = c .before .before .before .before .word-of4 .ensures ∙ ap word (rk (v .1 .1 .1 .0) (t .1 .1 .1 .0 .1)) in
     rw (e .1, ← n1, ← n2, ← n3, ← n4) (c .before .before .store5 .ensures)
 
 pub store-entry-spec : {M : Type 1} → statement M

@@ -5,7 +5,8 @@ use native.Mathlib.Omega.{arith}
 use lib.ListN.{length, take}
 use Rattle.tile.specs.Bank.{blank}
 use Rattle.tile.proofs.Known.{eight}
-use Rattle.words.specs.Host.{tilesNumbers, bankNumbers}
+use Rattle.plan.specs.Check.{tilesNumbers}
+use Rattle.words.specs.Host.{bankNumbers}
 use Rattle.words.proofs.Pasted.{tile-more, tile-same, all-tiles}
 use Rattle.words.proofs.host.bank_into.Statement.{statement}
 use Rattle.words.proofs.host.bank_into.Tie as tie

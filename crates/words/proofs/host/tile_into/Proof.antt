@@ -1,5 +1,5 @@
 -- `words::host::tile_into` meets its contract: the tile's numbers are put, and they are seventeen. Assumes nothing.
-use Rattle.words.specs.Host.{tileNumbers}
+use Rattle.plan.specs.Check.{tileNumbers}
 use borrow.Author.Needs.{needs}
 use Rattle.words.proofs.host.tile_into.Statement.{statement}
 use Rattle.words.proofs.host.tile_into.Tie as tie

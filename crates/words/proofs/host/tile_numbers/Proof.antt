@@ -1,6 +1,6 @@
 -- `words::host::tile_numbers` meets its contract: each field fits a word. Assumes nothing.
 use native.Mathlib.Omega.{arith}
-use Rattle.words.specs.Host.{tileNumbers}
+use Rattle.plan.specs.Check.{tileNumbers}
 use borrow.Author.Needs.{needs}
 use Rattle.words.proofs.host.tile_numbers.Statement.{statement}
 use Rattle.words.proofs.host.tile_numbers.Tie as tie

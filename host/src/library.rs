@@ -1,4 +1,4 @@
-//! The proved planner, through the C interface of its static library (include/visorlongan.h).
+//! The C functions of the proved library (include/visorlongan.h) on slices of any length. differential/ builds this file too.
 
 pub const REQUEST_WORDS: usize = 7;
 pub const BANK_WORDS: usize = 136;
@@ -27,7 +27,8 @@ extern "C" {
     ) -> u64;
 }
 
-/// A whole run: 0, or 1 where request, bank or end has the wrong number of words.
+/// A whole run: 0, or 1 where request, bank or end has the wrong number of words, which changes
+/// nothing.
 pub fn run(
     object: &[u8],
     request: &[u64],
@@ -35,7 +36,9 @@ pub fn run(
     plan: &mut [u64],
     end: &mut [u64],
 ) -> u64 {
-    // The library stays inside the lengths that it is given; the slices cannot overlap.
+    // SAFETY: each pointer comes with the length of the slice that it is from. The library reads
+    // and writes inside these lengths only, which is proved, and it keeps no pointer. The slices
+    // that it writes are borrowed for writing, so no two of them overlap.
     unsafe {
         bg_run(
             object.as_ptr(),
@@ -55,7 +58,7 @@ pub fn run(
 /// The end of the whole plan, without a buffer: 0, or 1 where request or end has the wrong number
 /// of words.
 pub fn count(object: &[u8], request: &[u64], end: &mut [u64]) -> u64 {
-    // As above.
+    // SAFETY: as for `run`.
     unsafe {
         bg_count(
             object.as_ptr(),
