@@ -89,7 +89,9 @@ copy-sound bg s address p rows e =
     let x = axis-in (bg .«frame_x» .0) (quarters (bg .«frame_w»)) (edge (s .ulx)) (edge (s .lrx)) (r .frame-x) (omega zarith) (omega zarith) (some _ (cells .0)) in
     let y = axis-in (bg .«frame_y» .0) (quarters (bg .«frame_h»)) (edge (s .uly)) (edge (s .lry)) (r .frame-y) (omega zarith) (omega zarith) (some _ (cells .1)) in
     record {
+      fmt = omega arith;
       siz = p .passed .siz;
+      palette = omega arith;
       rows = omega zarith;
       rows′ = rows;
       image-width = omega zarith;

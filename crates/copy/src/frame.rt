@@ -104,9 +104,9 @@ pub fn copy_of(bg: ObjBg, scissor: Scissor, address: u64) -> Copy
     let palette = signed::low8(bg.image_pal);
     let rows = rows_in(bg.tmem_h);
     Copy {
-        fmt: bg.image_fmt,
-        siz: bg.image_siz,
-        palette,
+        fmt: bg.image_fmt as u64,
+        siz: bg.image_siz as u64,
+        palette: palette as u64,
         flip: bg.image_flip % 2 == 1,
         address,
         rows,

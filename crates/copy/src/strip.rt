@@ -59,7 +59,7 @@ fn aligned(c: Copy, n: u64) -> u64
 }
 
 // The words of a line.
-fn line_of(siz: u8, load_width: u64) -> u64
+fn line_of(siz: u64, load_width: u64) -> u64
     requires { ⌜ siz ≤ 3 ⌝ }
     requires { ⌜ «load_width» ≤ 16383 ⌝ }
     ensures { λ r. ⌜ r ≡ lineOf siz «load_width» ⌝ }

@@ -67,17 +67,17 @@ fn image_entry(c: Copy) -> Entry
     Entry::Image {
         fmt: c.fmt,
         siz: c.siz,
-        width,
+        width: width as u64,
         address: c.address,
     }
 }
 
-fn tile_entry(p: Place, index: u8, cms: u8, masks: u8) -> Entry
+fn tile_entry(p: Place, index: u64, cms: u64, masks: u64) -> Entry
     ensures { λ r. ⌜ r ≡ tileEntry p index cms masks ⌝ }
 {
     let c = p.copy;
     let s = p.strip;
-    let line = (s.line % 65536) as u16;
+    let line = s.line % 65536;
     Entry::Tile {
         index,
         fmt: c.fmt,
@@ -122,8 +122,8 @@ fn size_entry(p: Place) -> Entry
         index: 0,
         uls: 0,
         ult: 0,
-        lrs,
-        lrt,
+        lrs: lrs as u64,
+        lrt: lrt as u64,
     }
 }
 
@@ -140,14 +140,14 @@ pub fn area_of(p: Place) -> Area
 }
 
 // A flipped strip starts at the end of what was loaded, and runs back.
-fn first_texel(flip: bool, load_width: u64, offset: u64) -> i16
+fn first_texel(flip: bool, load_width: u64, offset: u64) -> i64
     requires { ⌜ («load_width» ≤ 65535) × (offset ≤ 65535) ⌝ }
     ensures { λ r. ⌜ r ≡ firstTexel flip «load_width» offset ⌝ }
 {
     if flip {
-        signed::signed16(-(load_width as i64) * 32)
+        signed::wide(signed::signed16(-(load_width as i64) * 32))
     } else {
-        signed::signed16(offset as i64 * 32)
+        signed::wide(signed::signed16(offset as i64 * 32))
     }
 }
 
@@ -217,10 +217,10 @@ fn loaded(request: LoadRequest, a: Area, p: Place) -> CopyNext
         } => {
             let entry = Entry::Load {
                 index: 7,
-                uls: a.uls,
-                ult: a.ult,
-                lrs: a.lrs,
-                lrt: a.lrt,
+                uls: a.uls as u64,
+                ult: a.ult as u64,
+                lrs: a.lrs as u64,
+                lrt: a.lrt as u64,
                 words,
                 rows,
                 stride,
@@ -232,10 +232,10 @@ fn loaded(request: LoadRequest, a: Area, p: Place) -> CopyNext
         LoadRequest::Overflow => {
             let size = Entry::Size {
                 index: 7,
-                uls: a.uls,
-                ult: a.ult,
-                lrs: a.lrs,
-                lrt: a.lrt,
+                uls: a.uls as u64,
+                ult: a.ult as u64,
+                lrs: a.lrs as u64,
+                lrt: a.lrt as u64,
             };
             CopyNext::Overflow(size)
         }
@@ -248,7 +248,7 @@ pub fn request_in(c: Copy, a: Area) -> LoadRequest
     ensures { λ r. ⌜ r ≡ requestIn c a ⌝ }
 {
     let width = width_field(c.image_width);
-    tile::load_request(c.siz, width, c.address, a.uls, a.ult, a.lrs, a.lrt)
+    tile::load_request(c.siz as u8, width, c.address, a.uls, a.ult, a.lrs, a.lrt)
 }
 
 fn load_next(p: Place) -> CopyNext

@@ -46,25 +46,35 @@ low8-requires c κs = search needs
 rows-in-requires : tie.Need-rows-in-requires
 rows-in-requires c κs = search needs
 
+cast-t15 : tie.Need-cast-t15
+cast-t15 c = search needs
+
+cast-t16 : tie.Need-cast-t16
+cast-t16 c = search needs
+
+cast-t17 : tie.Need-cast-t17
+cast-t17 c = search needs
+
 returns : tie.Need-returns
 returns c =
-    let a = c .before .before .before .before .before .before .before .before .before .before .before .before .before .before .before .before .before in
+    let d = c .before .before .before in
+    let a = d .before .before .before .before .before .before .before .before .before .before .before .before .before .before .before .before in
     let ulx : SFits w32 (a .args .scissor .ulx) = omega zarith in
     let uly : SFits w32 (a .args .scissor .uly) = omega zarith in
     let lrx : SFits w32 (a .args .scissor .lrx) = omega zarith in
     let lry : SFits w32 (a .args .scissor .lry) = omega zarith in
     copy-is (a .args .bg) (a .args .scissor) (a .args .address) (a .pre)
-    (rw (toZ-ofZ w32 _ ulx, toZ-ofZ w32 _ lrx) at (c .before .before .before .before .before .before .before .before .before .before .before .before .before .before .axis-of .ensures))
-    (rw (toZ-ofZ w32 _ uly, toZ-ofZ w32 _ lry) at (c .before .before .before .before .before .before .before .before .before .before .before .axis-of2 .ensures))
-    (c .before .before .before .before .before .before .before .before .before .before .texels .ensures)
-    (c .before .before .before .before .before .before .before .before .before .texels2 .ensures)
-    (c .before .before .before .before .before .before .before .before .texels3 .ensures)
-    (c .before .before .before .before .before .before .before .whole-texels .ensures)
-    (c .before .before .before .before .before .before .whole-texels2 .ensures)
-    (c .before .rows-in .ensures)
-    (c .before .before .low8 .ensures)
-    (c .before .before .before .before .copy-capacity .ensures .is)
-    (c .before .before .before .texels-per-word .ensures)
+    (rw (toZ-ofZ w32 _ ulx, toZ-ofZ w32 _ lrx) at (d .before .before .before .before .before .before .before .before .before .before .before .before .before .axis-of .ensures))
+    (rw (toZ-ofZ w32 _ uly, toZ-ofZ w32 _ lry) at (d .before .before .before .before .before .before .before .before .before .before .axis-of2 .ensures))
+    (d .before .before .before .before .before .before .before .before .before .texels .ensures)
+    (d .before .before .before .before .before .before .before .before .texels2 .ensures)
+    (d .before .before .before .before .before .before .before .texels3 .ensures)
+    (d .before .before .before .before .before .before .whole-texels .ensures)
+    (d .before .before .before .before .before .whole-texels2 .ensures)
+    (d .rows-in .ensures)
+    (d .before .low8 .ensures)
+    (d .before .before .before .copy-capacity .ensures .is)
+    (d .before .before .texels-per-word .ensures)
 
 pub copy-of-spec : {M : Type 1} → statement M
 copy-of-spec =
@@ -82,4 +92,7 @@ copy-of-spec =
     texels-per-word-requires
     low8-requires
     rows-in-requires
+    cast-t15
+    cast-t16
+    cast-t17
     returns)

@@ -2,7 +2,7 @@
 use mathlib.Core.Path.{_≡_}
 use Prim.Native.Nat.{ℕ}
 use lib.IntN.{pos, negℤ, _-ℤ_}
-use mir.Syntax.{w16}
+use mir.Syntax.{w16, w64}
 use mir.ValLaws.{toZ-ofZ}
 use Rattle.signed.specs.Diff.{zdiff, zarith}
 use Rattle.signed.specs.Word.{rd, rdn}
@@ -27,6 +27,9 @@ mul-signed16 c =
 signed16-requires : tie.Need-signed16-requires
 signed16-requires c κs = search needs
 
+wide-requires : tie.Need-wide-requires
+wide-requires c κs = search needs
+
 cast-signed16-2 : tie.Need-cast-signed16-2
 cast-signed16-2 c = search needs
 
@@ -36,16 +39,21 @@ mul-signed16-2 c = rw (rdn (c .before .args .offset) (cast-signed16-2 c .sfits))
 signed16-requires-2 : tie.Need-signed16-requires-2
 signed16-requires-2 c κs = search needs
 
+wide-requires-2 : tie.Need-wide-requires-2
+wide-requires-2 c κs = search needs
+
 returns : tie.Need-returns
 returns c =
-    let d = c .before in
+    let d = c .before .before in
+    let g = c .before .signed16 in
     let n = d .before .args .load-width in
-    rw (toZ-ofZ w16 (c .signed16 .result) (record { sfits = c .signed16 .ok }), c .signed16 .ensures, d .if1 .taken, rd (mul-signed16 d), rd (sub-signed16 d), rdn n (cast-signed16 d .sfits), turned n)
+    rw (toZ-ofZ w64 (c .wide .result) (record { sfits = c .wide .ok }), c .wide .ensures, toZ-ofZ w16 (g .result) (record { sfits = g .ok }), g .ensures, d .if1 .taken, rd (mul-signed16 d), rd (sub-signed16 d), rdn n (cast-signed16 d .sfits), turned n)
 
 returns-2 : tie.Need-returns-2
 returns-2 c =
-    let d = c .before in
-    rw (toZ-ofZ w16 (c .signed162 .result) (record { sfits = c .signed162 .ok }), c .signed162 .ensures, d .if1 .left, rd (mul-signed16-2 d), rdn (d .before .args .offset) (cast-signed16-2 d .sfits))
+    let d = c .before .before in
+    let g = c .before .signed162 in
+    rw (toZ-ofZ w64 (c .wide2 .result) (record { sfits = c .wide2 .ok }), c .wide2 .ensures, toZ-ofZ w16 (g .result) (record { sfits = g .ok }), g .ensures, d .if1 .left, rd (mul-signed16-2 d), rdn (d .before .args .offset) (cast-signed16-2 d .sfits))
 
 pub first-texel-spec : {M : Type 1} → statement M
 first-texel-spec =
@@ -55,8 +63,10 @@ first-texel-spec =
     sub-signed16
     mul-signed16
     signed16-requires
+    wide-requires
     cast-signed16-2
     mul-signed16-2
     signed16-requires-2
+    wide-requires-2
     returns
     returns-2)
