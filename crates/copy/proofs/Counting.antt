@@ -19,11 +19,12 @@ use Rattle.plan.specs.Copy.{stripRow, stripHeight, rows, copyPlan}
 use Rattle.plan.specs.Laws.{rows-end}
 use Rattle.plan.specs.Sound.{SoundCopy}
 use Rattle.copy.specs.declared.types.Area.{Area}
+use Rattle.copy.specs.declared.types.Due.the-variants as due
 use Rattle.copy.specs.declared.types.Place.{Place}
 use Rattle.copy.specs.declared.types.Counted.{Counted}
 use Rattle.copy.specs.Strip.{Bounds, Rows, strip-bounds}
 use Rattle.copy.specs.Walk.{placeAt, SoundPlace, imageEntry, tileEntry, tile0Entry, sizeEntry, areaOf, requestIn, rectEntry, tooBig}
-use Rattle.copy.specs.Coming.{restFrom, restOf, rectTail, loadTail, stripTail, tailOf, too-big, fits, right-tail, row-rest, below-tail}
+use Rattle.copy.specs.Coming.{restFrom, restOf, dueTail, loadTail, stripTail, tailOf, too-big, fits, right-tail, row-rest, below-tail}
 use Rattle.copy.specs.Kept.{place-sound}
 use Rattle.copy.specs.Count.{refusedIn, countedOf}
 
@@ -47,12 +48,12 @@ joined n m k = same (k .verdict) (omega arith)
 
 -- ---- one strip
 
-loaded : (p : Place) (a : Area) (q : LoadRequest) → refusedIn q ≡ false → counts (loadOut q 7 (a .uls) (a .ult) (a .lrs) (a .lrt) >> rectTail p) ≡ plus 2 (counts (restOf p))
-unfolding loadOut rectTail
-loaded p a (request.Load words rows stride start length) g = one _ (rectTail p) ∙ ap (plus 1) (one (rectEntry p) (restOf p)) ∙ joined 1 1 (counts (restOf p))
+loaded : (p : Place) (a : Area) (q : LoadRequest) → refusedIn q ≡ false → counts (loadOut q 7 (a .uls) (a .ult) (a .lrs) (a .lrt) >> dueTail due.Rect p) ≡ plus 2 (counts (restOf p))
+unfolding loadOut dueTail
+loaded p a (request.Load words rows stride start length) g = one _ (dueTail due.Rect p) ∙ ap (plus 1) (one (rectEntry p) (restOf p)) ∙ joined 1 1 (counts (restOf p))
 loaded p a request.Overflow g = absurd (true≢false g)
 
-cut : (p : Place) (a : Area) (q : LoadRequest) → refusedIn q ≡ true → counts (loadOut q 7 (a .uls) (a .ult) (a .lrs) (a .lrt) >> rectTail p) ≡ record { entries = 0; verdict = verdict.Address }
+cut : (p : Place) (a : Area) (q : LoadRequest) → refusedIn q ≡ true → counts (loadOut q 7 (a .uls) (a .ult) (a .lrs) (a .lrt) >> dueTail due.Rect p) ≡ record { entries = 0; verdict = verdict.Address }
 unfolding loadOut
 cut p a (request.Load words rows stride start length) g = absurd (true≢false (sym g))
 cut p a request.Overflow g = refl

@@ -5,7 +5,7 @@ use mathlib.Core.Bool.{Bool, true, false}
 use mathlib.Core.List.{List, [], _∷_, _++_, append-assoc, append-nil}
 use Prim.Native.Nat.{ℕ, _+_, _<_}
 use native.Mathlib.Omega.{arith}
-use borrow.Author.Tests.{ltb-true, lt-ltb}
+use borrow.Author.Tests.{ltb-true, lt-ltb, le-ltb}
 use lib.Dec.{ltb}
 use Rattle.object.specs.declared.types.Verdict.the-variants as verdict
 use Rattle.tile.specs.declared.load.LoadRequest.{LoadRequest}
@@ -20,10 +20,12 @@ use Rattle.plan.specs.Laws.{more-nil, more-more, more-bind, columns-on, columns
 use Rattle.plan.specs.Next.{cons, Follows}
 use Rattle.plan.specs.Sound.{SoundCopy}
 use Rattle.copy.specs.declared.types.Area.{Area}
+use Rattle.copy.specs.declared.types.Due.{Due}
+use Rattle.copy.specs.declared.types.Due.the-variants as due
 use Rattle.copy.specs.declared.types.Stage.{Stage}
 use Rattle.copy.specs.declared.types.Stage.the-variants as stage
 use Rattle.copy.specs.declared.types.Place.{Place}
-use Rattle.copy.specs.Walk.{placeAt, rowAt, SoundPlace, imageEntry, tileEntry, tile0Entry, sizeEntry, areaOf, requestIn, rectEntry, tooBig, tile7Next, loadNext, rectNext, copyNextOf, CopyWalk, asNext}
+use Rattle.copy.specs.Walk.{placeAt, rowAt, startAt, soundAt, tileEntry, tile0Entry, sizeEntry, areaOf, requestIn, rectEntry, dueEntry, tooBig, tile7Next, loadNext, stripNext, copyNextOf, CopyWalk, asNext}
 
 -- ---- the tails, each written out from the definition of the plan
 
@@ -34,15 +36,16 @@ restFrom c y sy height x = columns (c .width) c y sy height x >> rows (c .height
 abbrev pub restOf : Place → Out (Unit {0})
 restOf p = restFrom (p .copy) (p .y) (p .sy) (p .«strip_height») (p .x + p .strip .«strip_width»)
 
-unfoldable pub rectTail : Place → Out (Unit {0})
-rectTail p = emit (rectEntry p) >> restOf p
+-- what is given before a strip is found, and the strips after it
+unfoldable pub dueTail : Due → Place → Out (Unit {0})
+dueTail d p = emit (dueEntry d p) >> restOf p
 
 -- the load alone
 abbrev pub loadOf : Place → Out (Unit {0})
 loadOf p = let a = areaOf p in loadTile (p .copy .siz) (field (p .copy)) (p .copy .address) 7 (a .uls) (a .ult) (a .lrs) (a .lrt)
 
 unfoldable pub loadTail : Place → Out (Unit {0})
-loadTail p = loadOf p >> rectTail p
+loadTail p = loadOf p >> dueTail due.Rect p
 
 -- the strip that stands here, whole
 unfoldable pub stripTail : Place → Out (Unit {0})
@@ -52,12 +55,11 @@ stripTail p =
     >> rows (p .copy .height) (p .copy) (p .y + p .«strip_height»)
 
 unfoldable pub tailOf : Stage → Place → Out (Unit {0})
-tailOf stage.Image p = emit (imageEntry (p .copy)) >> stripTail p
+tailOf (stage.Strip d) p = dueTail d p
 tailOf stage.Tile7 p = stripTail p
 tailOf stage.Tile0 p = emit (tile0Entry p) >> (emit (sizeEntry p) >> loadTail p)
 tailOf stage.Size p = emit (sizeEntry p) >> loadTail p
 tailOf stage.Load p = loadTail p
-tailOf stage.Rect p = rectTail p
 tailOf stage.Done p = yield tt
 
 -- what is to come of the plan
@@ -94,13 +96,13 @@ unfolding stripTail strip
 too-big p t = rw (t, strip)
 
 pub fits : (p : Place) → tooBig p ≡ false → stripTail p ≡ (emit (tileEntry p 7 0 0) >> tailOf stage.Tile0 p)
-unfolding stripTail strip stripEntries tailOf loadTail rectTail restFrom
+unfolding stripTail strip stripEntries tailOf loadTail dueTail restFrom
 fits p t =
     let c = p .copy in
     let x = p .x + p .strip .«strip_width» in
     rw (t, strip)
     (regroup (tileEntry p 7 0 0 ∷ tile0Entry p ∷ sizeEntry p ∷ []) (loadOf p) (rectEntry p) x (λ x. columns (c .width) c (p .y) (p .sy) (p .«strip_height») x) (rows (c .height) c (p .y + p .«strip_height»))
-    ∙ three (tileEntry p 7 0 0) (tile0Entry p) (sizeEntry p) (loadOf p >> rectTail p))
+    ∙ three (tileEntry p 7 0 0) (tile0Entry p) (sizeEntry p) (loadOf p >> dueTail due.Rect p))
 
 -- ---- the rest, where there is a strip to the right, a row below, or nothing
 
@@ -128,37 +130,37 @@ unfolding tile7Next comingCopy
 tile7-follows p true e = ap planOut (too-big p e)
 tile7-follows p false e = ap planOut (fits p e) ∙ plan-more (tileEntry p 7 0 0) (tailOf stage.Tile0 p)
 
-load-follows : (p : Place) (a : Area) (q : LoadRequest) → Follows comingWalk (planOut (loadOut q 7 (a .uls) (a .ult) (a .lrs) (a .lrt) >> rectTail p)) (asNext (loadNext q a p))
+load-follows : (p : Place) (a : Area) (q : LoadRequest) → Follows comingWalk (planOut (loadOut q 7 (a .uls) (a .ult) (a .lrs) (a .lrt) >> dueTail due.Rect p)) (asNext (loadNext q a p))
 unfolding loadNext loadOut comingCopy tailOf
-load-follows p a (request.Load words rows stride start length) = plan-more _ (rectTail p)
+load-follows p a (request.Load words rows stride start length) = plan-more _ (dueTail due.Rect p)
 load-follows p a request.Overflow = refl
 
-rect-follows : (p : Place) → SoundCopy (p .copy) → (t u : Bool) → ltb (p .x + p .strip .«strip_width») (p .copy .width) ≡ t → ltb (p .y + p .«strip_height») (p .copy .height) ≡ u
-    → Follows comingWalk (planOut (rectTail p)) (asNext (rectNext t u p))
-unfolding rectNext rectTail comingCopy tailOf
-rect-follows p s true u d e =
-    plan-more (rectEntry p) (restOf p)
-    ∙ ap (λ (a : Out (Unit {0})). cons (rectEntry p) (planOut a)) (right-tail (p .copy) (p .y) (p .sy) (p .«strip_height») (p .x + p .strip .«strip_width») s (ltb-true _ _ d))
-rect-follows p s false true d e =
-    plan-more (rectEntry p) (restOf p)
-    ∙ ap (λ (a : Out (Unit {0})). cons (rectEntry p) (planOut a))
-    (below-tail (p .copy) (p .y) (p .sy) (p .«strip_height») (p .x + p .strip .«strip_width») d ∙ row-tail (p .copy) (p .y + p .«strip_height») s (ltb-true _ _ e))
-rect-follows p s false false d e =
-    plan-more (rectEntry p) (restOf p)
-    ∙ ap (λ (a : Out (Unit {0})). cons (rectEntry p) (planOut a))
-    (below-tail (p .copy) (p .y) (p .sy) (p .«strip_height») (p .x + p .strip .«strip_width») d ∙ rows-end (p .copy .height) (p .copy) (p .y + p .«strip_height») e)
+strip-follows : (d : Due) (p : Place) → SoundCopy (p .copy) → (t u : Bool) → ltb (p .x + p .strip .«strip_width») (p .copy .width) ≡ t → ltb (p .y + p .«strip_height») (p .copy .height) ≡ u
+    → Follows comingWalk (planOut (dueTail d p)) (asNext (stripNext t u d p))
+unfolding stripNext dueTail comingCopy tailOf
+strip-follows d p s true u e f =
+    plan-more (dueEntry d p) (restOf p)
+    ∙ ap (λ (a : Out (Unit {0})). cons (dueEntry d p) (planOut a)) (right-tail (p .copy) (p .y) (p .sy) (p .«strip_height») (p .x + p .strip .«strip_width») s (ltb-true _ _ e))
+strip-follows d p s false true e f =
+    plan-more (dueEntry d p) (restOf p)
+    ∙ ap (λ (a : Out (Unit {0})). cons (dueEntry d p) (planOut a))
+    (below-tail (p .copy) (p .y) (p .sy) (p .«strip_height») (p .x + p .strip .«strip_width») e ∙ row-tail (p .copy) (p .y + p .«strip_height») s (ltb-true _ _ f))
+strip-follows d p s false false e f =
+    plan-more (dueEntry d p) (restOf p)
+    ∙ ap (λ (a : Out (Unit {0})). cons (dueEntry d p) (planOut a))
+    (below-tail (p .copy) (p .y) (p .sy) (p .«strip_height») (p .x + p .strip .«strip_width») e ∙ rows-end (p .copy .height) (p .copy) (p .y + p .«strip_height») f)
 
-pub copy-follows : (s : Stage) (p : Place) → SoundPlace p → Follows comingWalk (comingCopy s p) (asNext (copyNextOf s p))
+pub copy-follows : (s : Stage) (p : Place) → soundAt s p → Follows comingWalk (comingCopy s p) (asNext (copyNextOf s p))
 unfolding copyNextOf comingCopy tailOf loadTail loadTile
-copy-follows stage.Image p h = plan-more (imageEntry (p .copy)) (stripTail p)
+copy-follows (stage.Strip due.Image) p h = strip-follows due.Image p (h .copy) _ _ refl refl
+copy-follows (stage.Strip due.Rect) p h = strip-follows due.Rect p (h .copy) _ _ refl refl
 copy-follows stage.Tile7 p h = tile7-follows p _ refl
 copy-follows stage.Tile0 p h = plan-more (tile0Entry p) (emit (sizeEntry p) >> loadTail p)
 copy-follows stage.Size p h = plan-more (sizeEntry p) (loadTail p)
 copy-follows stage.Load p h = load-follows p (areaOf p) (requestIn (p .copy) (areaOf p))
-copy-follows stage.Rect p h = rect-follows p (h .copy) _ _ refl refl
 copy-follows stage.Done p h = refl
 
 -- the whole plan is to come at the start
-pub copy-start : (c : Copy) → SoundCopy c → comingCopy stage.Image (rowAt c 0) ≡ planOut (copyPlan c)
-unfolding comingCopy tailOf copyPlan
-copy-start c s = ap (λ (a : Out (Unit {0})). planOut (emit (imageEntry c) >> a)) (sym (row-tail c 0 s (s .height)))
+pub copy-start : (c : Copy) → comingCopy (stage.Strip due.Image) (startAt c) ≡ planOut (copyPlan c)
+unfolding comingCopy tailOf dueTail copyPlan
+copy-start c = ap (λ (a : Out (Unit {0})). planOut (emit (dueEntry due.Image (startAt c)) >> a)) (below-tail c 0 0 0 (c .width + 0) (le-ltb (c .width + 0) (c .width) (omega arith)))

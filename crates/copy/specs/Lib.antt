@@ -4,4 +4,5 @@ pub mod Strip
 pub mod Walk
 pub mod Coming
 pub mod Kept
+pub mod Small
 pub mod Count

@@ -1,5 +1,6 @@
 -- One step of the copy walk: the entry that is due, and where the walk stands after it.
 -- Assumes nothing.
+use mathlib.Core.Path.{_≡_}
 use mathlib.Core.Bool.{Bool, true, false, cond}
 use mathlib.Core.List.{[], _∷_}
 use Prim.Native.Nat.{ℕ, _+_, _-_, _*_, _%_, _^_, _<_}
@@ -18,6 +19,8 @@ use Rattle.plan.specs.Next.{Next}
 use Rattle.plan.specs.Next.Next.{give, over}
 use Rattle.plan.specs.Sound.{SoundCopy}
 use Rattle.copy.specs.declared.types.Area.{Area}
+use Rattle.copy.specs.declared.types.Due.{Due}
+use Rattle.copy.specs.declared.types.Due.the-variants as due
 use Rattle.copy.specs.declared.types.Stage.{Stage}
 use Rattle.copy.specs.declared.types.Stage.the-variants as stage
 use Rattle.copy.specs.declared.types.Place.{Place}
@@ -35,13 +38,40 @@ placeAt c x y sy height = record { copy = c; x = x; y = y; sy = sy; «strip_heig
 abbrev pub rowAt : Copy → ℕ → Place
 rowAt c y = placeAt c 0 y (stripRow c y) (stripHeight c y)
 
--- what each step asks of it
+-- before the first row: nothing lies to its right, and the row below is at line 0
+abbrev pub startAt : Copy → Place
+startAt c =
+    record {
+      copy = c;
+      x = c .width;
+      y = 0;
+      sy = 0;
+      «strip_height» = 0;
+      strip = record { «strip_width» = 0; «aligned_left» = 0; offset = 0; «load_width» = 0; line = 0 };
+    }
+
+-- what each step asks of a strip's place
 pub record SoundPlace (p : Place) : Type 0 where
   pub copy : SoundCopy (p .copy)
   pub x : p .x < p .copy .width
   pub y : p .y < p .copy .height
   pub rows : Rows (p .copy) (p .y) (p .sy) (p .«strip_height»)
   pub strip : Bounds (p .copy) (p .x) (p .strip)
+
+-- what the first step asks
+pub record SoundStart (p : Place) : Type 0 where
+  pub copy : SoundCopy (p .copy)
+  pub is : p ≡ startAt (p .copy)
+
+-- what a step asks, by its stage
+abbrev pub soundAt : Stage → Place → Type 0
+soundAt (stage.Strip due.Image) p = SoundStart p
+soundAt (stage.Strip due.Rect) p = SoundPlace p
+soundAt stage.Tile7 p = SoundPlace p
+soundAt stage.Tile0 p = SoundPlace p
+soundAt stage.Size p = SoundPlace p
+soundAt stage.Load p = SoundPlace p
+soundAt stage.Done p = SoundPlace p
 
 -- ---- the entries, R 454–459 and 494–549 as `copyPlan` and `stripEntries` have them
 
@@ -80,6 +110,11 @@ rectEntry p =
     (p .copy .top + (p .y + p .«strip_height» - 1) * 4)
     (firstTexel (p .copy .flip) (p .strip .«load_width») (p .strip .offset)) (pos 0) (pos 0x1000) (pos 0x400) (p .sy)
 
+-- what is given before a strip is found
+abbrev pub dueEntry : Due → Place → Entry
+dueEntry due.Image p = imageEntry (p .copy)
+dueEntry due.Rect p = rectEntry p
+
 -- ---- the answers, by stage
 
 -- D 7 "a copy strip's line × height exceeds capacity"
@@ -92,22 +127,21 @@ tile7Next false p = next.Entry (tileEntry p 7 0 0) stage.Tile0 p
 
 -- D 9 "a copy load refused by 9 has already set tile 7's size"
 unfoldable pub loadNext : LoadRequest → Area → Place → CopyNext
-loadNext (request.Load words rows stride start length) a p = next.Entry (entry.Load 7 (a .uls) (a .ult) (a .lrs) (a .lrt) words rows stride start length) stage.Rect p
+loadNext (request.Load words rows stride start length) a p = next.Entry (entry.Load 7 (a .uls) (a .ult) (a .lrs) (a .lrt) words rows stride start length) (stage.Strip due.Rect) p
 loadNext request.Overflow a p = next.Overflow (entry.Size 7 (a .uls) (a .ult) (a .lrs) (a .lrt))
 
 -- the strip after this one: in the row, in the next row, or none
-unfoldable pub rectNext : (in-row in-frame : Bool) → Place → CopyNext
-rectNext true u p = next.Entry (rectEntry p) stage.Tile7 (placeAt (p .copy) (p .x + p .strip .«strip_width») (p .y) (p .sy) (p .«strip_height»))
-rectNext false true p = next.Entry (rectEntry p) stage.Tile7 (rowAt (p .copy) (p .y + p .«strip_height»))
-rectNext false false p = next.Entry (rectEntry p) stage.Done p
+unfoldable pub stripNext : (in-row in-frame : Bool) → Due → Place → CopyNext
+stripNext true u d p = next.Entry (dueEntry d p) stage.Tile7 (placeAt (p .copy) (p .x + p .strip .«strip_width») (p .y) (p .sy) (p .«strip_height»))
+stripNext false true d p = next.Entry (dueEntry d p) stage.Tile7 (rowAt (p .copy) (p .y + p .«strip_height»))
+stripNext false false d p = next.Entry (dueEntry d p) stage.Done p
 
 unfoldable pub copyNextOf : Stage → Place → CopyNext
-copyNextOf stage.Image p = next.Entry (imageEntry (p .copy)) stage.Tile7 p
+copyNextOf (stage.Strip d) p = stripNext (ltb (p .x + p .strip .«strip_width») (p .copy .width)) (ltb (p .y + p .«strip_height») (p .copy .height)) d p
 copyNextOf stage.Tile7 p = tile7Next (tooBig p) p
 copyNextOf stage.Tile0 p = next.Entry (tile0Entry p) stage.Size p
 copyNextOf stage.Size p = next.Entry (sizeEntry p) stage.Load p
 copyNextOf stage.Load p = loadNext (requestIn (p .copy) (areaOf p)) (areaOf p) p
-copyNextOf stage.Rect p = rectNext (ltb (p .x + p .strip .«strip_width») (p .copy .width)) (ltb (p .y + p .«strip_height») (p .copy .height)) p
 copyNextOf stage.Done p = next.Finished
 
 -- ---- the same as one step of a walk

@@ -19,18 +19,23 @@ pub struct Area {
     pub lrt: u16,
 }
 
-// Which entry is due: the texture image, one of a strip's five, or none.
-pub enum Stage {
+// What is given before a strip is found: the texture image, once, or the rectangle of the strip before it.
+pub enum Due {
     Image,
+    Rect,
+}
+
+// Which entry is due: the one before a strip is found, one of the strip's first four, or none.
+pub enum Stage {
+    Strip(Due),
     Tile7,
     Tile0,
     Size,
     Load,
-    Rect,
     Done,
 }
 
-// The strip that a walk stands at, computed once for its five entries.
+// The strip that a walk stands at, computed once for its five entries; at the start one of no cells, before the first row.
 pub struct Place {
     pub copy: Copy,
     pub x: u64,

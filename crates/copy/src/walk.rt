@@ -3,17 +3,19 @@ ghost use mathlib.Core.Path.{_≡_};
 ghost use Prim.Native.Nat.{_+_, _-_, _*_, _%_, _^_, _≤_, _<_};
 ghost use Rattle.plan.specs.Copy.{field, bound};
 ghost use Rattle.plan.specs.Sound.{SoundCopy};
-ghost use Rattle.copy.specs.Walk.{placeAt, rowAt, SoundPlace, imageEntry, tileEntry, tile0Entry, sizeEntry, areaOf, requestIn, firstTexel, rectEntry, tooBig, loadNext, copyNextOf};
+ghost use Rattle.copy.specs.Walk.{placeAt, startAt, SoundPlace, soundAt, imageEntry, tileEntry, tile0Entry, sizeEntry, areaOf, requestIn, firstTexel, rectEntry, dueEntry, tooBig, loadNext, copyNextOf};
 ghost use Rattle.copy.specs.declared.types.Stage.the-variants as stage;
 use crate::strip::strip_height;
 use crate::strip::strip_of;
 use crate::strip::strip_row;
 use crate::types::Area;
 use crate::types::CopyNext;
+use crate::types::Due;
 use crate::types::Place;
 use crate::types::Stage;
 use plan::Copy;
 use plan::Entry;
+use plan::Strip;
 use tile::LoadRequest;
 
 // At cell x of the row of strips at line y.
@@ -33,22 +35,25 @@ pub fn place_at(c: Copy, x: u64, y: u64, sy: u64, strip_height: u64) -> Place
     }
 }
 
-// At the first cell of the row of strips at line y.
-fn row_at(c: Copy, y: u64) -> Place
-    requires { ⌜ SoundCopy c ⌝ }
-    requires { ⌜ y < c .height ⌝ }
-    ensures { λ r. ⌜ r ≡ rowAt c y ⌝ }
-{
-    let sy = strip_row(c, y);
-    let strip_height = strip_height(c, y, sy);
-    place_at(c, 0, y, sy, strip_height)
-}
-
+// Before the first row: no cell is to its right, and the row below is the first, so the walk finds it as any other.
 pub fn copy_start(c: Copy) -> Place
-    requires { ⌜ SoundCopy c ⌝ }
-    ensures { λ r. ⌜ r ≡ rowAt c 0 ⌝ }
+    ensures { λ r. ⌜ r ≡ startAt c ⌝ }
 {
-    row_at(c, 0)
+    let strip = Strip {
+        strip_width: 0,
+        aligned_left: 0,
+        offset: 0,
+        load_width: 0,
+        line: 0,
+    };
+    Place {
+        copy: c,
+        x: c.width,
+        y: 0,
+        sy: 0,
+        strip_height: 0,
+        strip,
+    }
 }
 
 // The texture image's width field.
@@ -227,7 +232,7 @@ fn loaded(request: LoadRequest, a: Area, p: Place) -> CopyNext
                 start,
                 length,
             };
-            CopyNext::Entry(entry, Stage::Rect, p)
+            CopyNext::Entry(entry, Stage::Strip(Due::Rect), p)
         }
         LoadRequest::Overflow => {
             let size = Entry::Size {
@@ -260,37 +265,49 @@ fn load_next(p: Place) -> CopyNext
     loaded(request, a, p)
 }
 
-// The rectangle is due: after it the strip to the right, the row below, or the end.
-fn rect_next(p: Place) -> CopyNext
-    requires { ⌜ SoundPlace p ⌝ }
-    ensures { λ r. ⌜ r ≡ copyNextOf stage.Rect p ⌝ }
+fn due_entry(due: Due, p: Place) -> Entry
+    requires { ⌜ soundAt (stage.Strip due) p ⌝ }
+    ensures { λ r. ⌜ r ≡ dueEntry due p ⌝ }
 {
-    let c = p.copy;
-    let s = p.strip;
-    let entry = rect_entry(p);
-    let right = p.x + s.strip_width;
-    if right < c.width {
-        let place = place_at(c, right, p.y, p.sy, p.strip_height);
-        return CopyNext::Entry(entry, Stage::Tile7, place);
-    }
-    let below = p.y + p.strip_height;
-    if below < c.height {
-        let place = row_at(c, below);
-        CopyNext::Entry(entry, Stage::Tile7, place)
-    } else {
-        CopyNext::Entry(entry, Stage::Done, p)
+    match due {
+        Due::Image => image_entry(p.copy),
+        Due::Rect => rect_entry(p),
     }
 }
 
+// The strip to the right, the first of the row below, or the end: found here alone, so that the compiler puts it in line.
+fn strip_next(due: Due, p: Place) -> CopyNext
+    requires { ⌜ soundAt (stage.Strip due) p ⌝ }
+    ensures { λ r. ⌜ r ≡ copyNextOf (stage.Strip due) p ⌝ }
+{
+    let c = p.copy;
+    let s = p.strip;
+    let entry = due_entry(due, p);
+    let right = p.x + s.strip_width;
+    let mut x: u64 = 0;
+    let mut y = p.y;
+    let mut sy = p.sy;
+    let mut height = p.strip_height;
+    if right < c.width {
+        x = right;
+    } else {
+        y = p.y + p.strip_height;
+        if c.height <= y {
+            return CopyNext::Entry(entry, Stage::Done, p);
+        }
+        sy = strip_row(c, y);
+        height = strip_height(c, y, sy);
+    }
+    let place = place_at(c, x, y, sy, height);
+    CopyNext::Entry(entry, Stage::Tile7, place)
+}
+
 pub fn copy_next(stage: Stage, place: Place) -> CopyNext
-    requires { ⌜ SoundPlace place ⌝ }
+    requires { ⌜ soundAt stage place ⌝ }
     ensures { λ r. ⌜ r ≡ copyNextOf stage place ⌝ }
 {
     match stage {
-        Stage::Image => {
-            let entry = image_entry(place.copy);
-            CopyNext::Entry(entry, Stage::Tile7, place)
-        }
+        Stage::Strip(due) => strip_next(due, place),
         Stage::Tile7 => tile7_next(place),
         Stage::Tile0 => {
             let entry = tile0_entry(place);
@@ -301,7 +318,6 @@ pub fn copy_next(stage: Stage, place: Place) -> CopyNext
             CopyNext::Entry(entry, Stage::Load, place)
         }
         Stage::Load => load_next(place),
-        Stage::Rect => rect_next(place),
         Stage::Done => CopyNext::Finished,
     }
 }

@@ -22,9 +22,6 @@ cast-t15 c = search needs
 enum-told : tie.Need-enum-told
 enum-told c = search needs
 
-cast-t17 : tie.Need-cast-t17
-cast-t17 c = search needs
-
 cast-t18 : tie.Need-cast-t18
 cast-t18 c = search needs
 
@@ -33,6 +30,9 @@ cast-t19 c = search needs
 
 cast-t20 : tie.Need-cast-t20
 cast-t20 c = search needs
+
+cast-t21 : tie.Need-cast-t21
+cast-t21 c = search needs
 
 returns : tie.Need-returns
 unfolding loadNext
@@ -43,4 +43,4 @@ unfolding loadNext
 returns-2 c = rw (c .before .before .before .before .enum-told .given .1)
 
 pub loaded-spec : {M : Type 1} → statement M
-loaded-spec = tie.close (tie.spec enum-known-request cast-t12 cast-t13 cast-t14 cast-t15 enum-told cast-t17 cast-t18 cast-t19 cast-t20 returns returns-2)
+loaded-spec = tie.close (tie.spec enum-known-request cast-t12 cast-t13 cast-t14 cast-t15 enum-told cast-t18 cast-t19 cast-t20 cast-t21 returns returns-2)
