@@ -8,6 +8,7 @@ use borrow.Author.Tests.{eqb-false}
 use lib.Dec.{eqb}
 use lib.IntN.{ℤ, pos, _+ℤ_, _-ℤ_}
 use lib.Signed.{leZ, _≤ℤ_}
+use Rattle.signed.specs.Bound.{some}
 use Rattle.signed.specs.Diff.{up, zdiff, zparts, zarith}
 use Rattle.signed.specs.Cast.{minZ}
 use Rattle.object.specs.declared.types.ObjBg.{ObjBg}
@@ -76,9 +77,6 @@ or-false false b e = (refl, e)
 capacity-in : (t : Bool) → cond t 256 512 ≤ 512
 capacity-in true = omega arith
 capacity-in false = omega arith
-
-some : (n : ℕ) → eqb n 0 ≡ false → 1 ≤ n
-some n e = let h = eqb-false n 0 e in omega arith
 
 copy-sound : (bg : ObjBg) (s : Scissor) (address : ℕ) → PassedCopy bg s → bg .«tmem_h» / 4 ≤ 16383 → copyEmpty (copyOf bg s address) ≡ false → SoundCopy (copyOf bg s address)
 unfolding copyOf axisOf

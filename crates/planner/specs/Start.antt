@@ -25,7 +25,8 @@ use Rattle.plan.specs.Whole.{copyOut, scaledOut, checkedOut, planWith, planOf}
 use Rattle.plan.specs.Sound.{SoundCopy}
 use Rattle.plan.specs.Steps.{comingOf}
 use Rattle.copy.specs.declared.types.Stage.the-variants as stage
-use Rattle.copy.specs.Walk.{rowAt}
+use Rattle.copy.specs.declared.types.Due.the-variants as due
+use Rattle.copy.specs.Walk.{startAt}
 use Rattle.copy.specs.Coming.{comingCopy, copy-start}
 use Rattle.copy.specs.Kept.{start-sound, start-left}
 use Rattle.passes.specs.declared.types.Reached.{Reached}
@@ -69,11 +70,11 @@ module _ (bg : ObjBg) (s : Scissor) (address : ℕ) where
   pub copy-none : copyEmpty (copyOf bg s address) ≡ true → StartsCopy bg s address (course.Over verdict.Finished)
   copy-none t = λ bytes opcode mode. over-starts _ verdict.Finished (sym (ap planOut (out-none bg (requestOf bytes opcode s mode address) t)))
 
-  pub copy-begins : SoundCopy (copyOf bg s address) → copyEmpty (copyOf bg s address) ≡ false → StartsCopy bg s address (course.Copy stage.Image (rowAt (copyOf bg s address) 0))
+  pub copy-begins : SoundCopy (copyOf bg s address) → copyEmpty (copyOf bg s address) ≡ false → StartsCopy bg s address (course.Copy (stage.Strip due.Image) (startAt (copyOf bg s address)))
   copy-begins h t =
       λ bytes opcode mode.
       record {
-        is = copy-start (copyOf bg s address) h ∙ sym (ap planOut (out-copy bg (requestOf bytes opcode s mode address) t));
+        is = copy-start (copyOf bg s address) ∙ sym (ap planOut (out-copy bg (requestOf bytes opcode s mode address) t));
         sound = start-sound (copyOf bg s address) h;
         left = start-left (copyOf bg s address);
       }

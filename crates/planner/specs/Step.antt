@@ -10,10 +10,6 @@ use lib.ListN.{length, drop}
 use Rattle.object.specs.declared.types.Verdict.{Verdict}
 use Rattle.object.specs.declared.types.Verdict.the-variants as verdict
 use Rattle.tile.specs.declared.bank.Bank.{Bank}
-use Rattle.tile.specs.declared.load.LoadRequest.{LoadRequest}
-use Rattle.tile.specs.declared.load.LoadRequest.the-variants as request
-use Rattle.tile.specs.Load.{rowsIn}
-use Rattle.tile.specs.Laws.{rows-in}
 use Rattle.plan.specs.declared.types.Entry.{Entry}
 use Rattle.plan.specs.declared.types.Entry.the-variants as entry
 use Rattle.plan.specs.declared.types.Answer.the-variants as answer
@@ -25,12 +21,12 @@ use Rattle.plan.specs.Sound.{EntryIn, Narrow}
 use Rattle.plan.specs.Run.{bankStep, bankAfter}
 use Rattle.plan.specs.Steps.{Coming, nextOf, answerOf, bankNext}
 use Rattle.copy.specs.declared.types.Stage.{Stage}
-use Rattle.copy.specs.declared.types.Stage.the-variants as stage
 use Rattle.copy.specs.declared.types.Place.{Place}
-use Rattle.copy.specs.declared.types.Area.{Area}
 use Rattle.copy.specs.declared.types.CopyNext.{CopyNext}
 use Rattle.copy.specs.declared.types.CopyNext.the-variants as copied
-use Rattle.copy.specs.Walk.{CopyWalk, SoundPlace, asNext, areaOf, requestIn, tooBig, tile7Next, loadNext, rectNext, copyNextOf}
+use Rattle.copy.specs.Walk as walk
+use Rattle.copy.specs.Walk.{CopyWalk, asNext, copyNextOf}
+use Rattle.copy.specs.Small.{next-in}
 use Rattle.copy.specs.Coming.{comingCopy, comingWalk, copy-follows}
 use Rattle.copy.specs.Kept.{leftCopy, Kept, copy-kept}
 use Rattle.passes.specs.declared.types.Stage as scaled

@@ -36,7 +36,7 @@ fn keep(kept: bool, plan: &mut [u64], at: usize, entry: Entry) -> usize
     ensures { λ r. ⌜ (now (plan .exit) ≡ keptOf kept (now (plan .entry)) at entry) × (r ≡ cond kept (at + 11) at) ⌝ }
 {
     if kept {
-        words::store(&mut *plan, at, words::entry_words(entry));
+        words::store_entry(&mut *plan, at, entry);
         return at + 11;
     }
     at
@@ -62,11 +62,28 @@ fn steps(start: Planner, bank: Bank, kept: bool, plan: &mut [u64]) -> Ran
                 }
                 at = keep(kept, &mut *plan, at, entry);
                 p = s.planner;
-                let i = words::changed(entry);
-                if 8 <= i {
-                    continue;
+                match entry {
+                    Entry::Tile { index, .. } => {
+                        let i = index as usize;
+                        if i < 8 {
+                            b.tiles[i] = words::tile_after(b.tiles[i], entry);
+                        }
+                    }
+                    Entry::Size { index, .. } => {
+                        let i = index as usize;
+                        if i < 8 {
+                            b.tiles[i] = words::tile_after(b.tiles[i], entry);
+                        }
+                    }
+                    Entry::Load { index, .. } => {
+                        let i = index as usize;
+                        if i < 8 {
+                            b.tiles[i] = words::tile_after(b.tiles[i], entry);
+                        }
+                    }
+                    Entry::Image { .. } => {}
+                    Entry::Rect { .. } => {}
                 }
-                b.tiles[i] = words::tile_after(b.tiles[i], entry);
             }
             Given::Refused(size, end) => {
                 let bank = words::bank_after(b, size);

@@ -4,6 +4,8 @@ ghost use Rattle.object.specs.Range.{PassedCopy, PassedScaled};
 ghost use Rattle.planner.specs.Coming.{Fresh, StartsCopy, StartsScaled};
 use crate::types::Course;
 use crate::types::Planner;
+use copy::Due;
+use copy::Stage;
 use object::Checked;
 use object::ObjBg;
 use object::Scissor;
@@ -19,7 +21,7 @@ fn copy_course(bg: ObjBg, scissor: Scissor, address: u64) -> Course
     if copy::copy_empty(c) {
         return Course::Over(Verdict::Finished);
     }
-    Course::Copy(copy::Stage::Image, copy::copy_start(c))
+    Course::Copy(Stage::Strip(Due::Image), copy::copy_start(c))
 }
 
 fn scaled_course(bg: ObjBg, scissor: Scissor, mode: u32, address: u64) -> Course

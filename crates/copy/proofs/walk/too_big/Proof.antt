@@ -1,5 +1,5 @@
 -- `copy::walk::too_big`: the product of two bounded numbers fits. Assumes nothing.
-use Rattle.tile.proofs.Product.{fits-mul}
+use Rattle.signed.specs.Bound.{fits-mul}
 use borrow.Author.Needs.{needs}
 use Rattle.copy.proofs.walk.too_big.Statement.{statement}
 use Rattle.copy.proofs.walk.too_big.Tie as tie

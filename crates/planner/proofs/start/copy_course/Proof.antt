@@ -21,7 +21,7 @@ returns c =
     copy-none (a .bg) (a .scissor) (a .address) (ap copyEmpty (sym (c .before .before .copy-of .ensures .is)) ∙ sym (c .before .copy-empty .ensures) ∙ c .if1 .taken)
 
 copy-start-requires : tie.Need-copy-start-requires
-copy-start-requires c κs = c .before .before .copy-of .ensures .sound (sym (c .before .copy-empty .ensures) ∙ c .if1 .left)
+copy-start-requires c κs = search needs
 
 returns-2 : tie.Need-returns-2
 returns-2 c =

@@ -55,7 +55,7 @@ returns-3 c =
     let s = c .before .before .before .before .before in
     let a = s .args in
     let g = copy-overflow (a .stage) (a .place) (s .pre .course) _ (sym (c .before .before .before .before .copy-next .ensures) ∙ c .before .before .size .given .1) in
-    rw (c .refuse .ensures) (step-refused (course.Copy (a .stage) (a .place)) (a .n) _ g (s .pre))
+    rw (c .refuse .ensures) (step-refused (course.Copy (a .stage) (a .place)) (a .n) _ (g .0) (g .1) (s .pre))
 
 returns-4 : tie.Need-returns-4
 returns-4 c =

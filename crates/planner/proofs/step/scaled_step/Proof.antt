@@ -39,7 +39,7 @@ returns-2 c =
     let s = c .before .before .before .before .before in
     let a = s .args in
     let g = rw (c .before .before .size .given .1) at (c .before .before .before .before .scaled-next .ensures) in
-    rw (c .refuse .ensures) (step-refused (course.Scaled (a .stage) (a .place)) (a .n) _ g (s .pre))
+    rw (c .refuse .ensures) (step-refused (course.Scaled (a .stage) (a .place)) (a .n) _ (g .0) (g .1) (s .pre))
 
 pub scaled-step-spec : {M : Type 1} → statement M
 scaled-step-spec =
