@@ -42,7 +42,7 @@ fn keep(kept: bool, plan: &mut [u64], at: usize, entry: Entry) -> usize
     at
 }
 
-// Steps to the end, or to an entry that has no room. The one loop of steps, and the tile set in place: a second one, or a bank by value, makes a run many times slower.
+// Steps to the end, or to an entry that has no room. This is the only loop of steps: the compiler joins it and all that a step calls into one, which a second caller would stop.
 fn steps(start: Planner, bank: Bank, kept: bool, plan: &mut [u64]) -> Ran
     requires { ⌜ (Sound start) × (start .counts ≡ zeroCounts) ⌝ }
     ensures { λ r. ⌜ StepsTo kept (coming start) (now (plan .entry)) bank (now (plan .exit)) r ⌝ }
@@ -62,6 +62,7 @@ fn steps(start: Planner, bank: Bank, kept: bool, plan: &mut [u64]) -> Ran
                 }
                 at = keep(kept, &mut *plan, at, entry);
                 p = s.planner;
+                // For each kind by itself: the compiler then stores only the fields that the kind changes.
                 match entry {
                     Entry::Tile { index, .. } => {
                         let i = index as usize;
