@@ -26,6 +26,8 @@ use Rattle.passes.specs.declared.types.Piece.{Piece}
 use Rattle.passes.specs.declared.types.Piece.the-variants as piece
 use Rattle.passes.specs.declared.types.Due.{Due}
 use Rattle.passes.specs.declared.types.Due.the-variants as due
+use Rattle.passes.specs.declared.types.Turn.{Turn}
+use Rattle.passes.specs.declared.types.Turn.the-variants as turn
 use Rattle.passes.specs.declared.types.Stage.{Stage}
 use Rattle.passes.specs.declared.types.Stage.the-variants as stage
 use Rattle.passes.specs.declared.types.Place.{Place}
@@ -69,6 +71,7 @@ wholeOut z src rows = sourceAddress (src .pointer) (pos (z .stride) *ℤ rows) >
 
 -- what of `load_1cyc` comes after a part; `spare` is the pointer of the last row's first part
 unfoldable pub pieceOut : Piece → Scaled → Source → (rows : ℤ) → (spare : ℕ) → Out Source
+pieceOut piece.Start z src rows spare = load1cyc z src rows
 pieceOut piece.Whole z src rows spare = wholeOut z src rows
 pieceOut piece.Top z src rows spare = splitRow z (src .pointer) (loadableOf z src) >> restOut z src rows
 pieceOut piece.SplitB z src rows spare = load1cycTile z spare (splitRows z src) (splitFrom z src) (splitWidth z) true >> restOut z src rows
@@ -130,15 +133,26 @@ abbrev pub dueWalk : Due → Place → Walk
 dueWalk due.Size p = p .walk
 dueWalk due.Rect p = afterDraw (p .scaled) (p .walk) (drawOf (p .walk)) (p .lines) (p .next)
 
+-- the entry of a turn, or the size that a refused load has set; and what comes after it
+abbrev pub turnOut : Turn → Place → Out (Unit {0})
+turnOut (turn.Load k) p = loadRows (p .scaled) (p .part .pointer) (p .part .rows) (p .part .width)
+turnOut turn.Last p = emit (tile7 (p .scaled) (pos 0))
+turnOut (turn.Pass d) p = emit (dueEntry d p)
+
+abbrev pub afterTurn : Turn → Place → Plan
+afterTurn (turn.Load k) p = passFrom p (afterPart k p)
+afterTurn turn.Last p = passFrom p (afterPart piece.Rest p)
+afterTurn (turn.Pass d) p = planOut (passesOf (p .scaled) (dueWalk d p))
+
 unfoldable pub comingScaled : Stage → Place → Plan
 comingScaled stage.First p = planOut (emit (tile7 (p .scaled) (pos 0)) >> (emit (tile0 (p .scaled)) >> (emit (Size 0 0 0 0 0) >> passesOf (p .scaled) (p .walk))))
 comingScaled stage.Second p = planOut (emit (tile0 (p .scaled)) >> (emit (Size 0 0 0 0 0) >> passesOf (p .scaled) (p .walk)))
 comingScaled (stage.Tile k) p = passFrom p (emit (tile7 (p .scaled) (p .part .destination)) >> (partOut p >> afterPart k p))
 comingScaled (stage.Image k) p = passFrom p (partOut p >> afterPart k p)
-comingScaled (stage.Load k) p = passFrom p (loadRows (p .scaled) (p .part .pointer) (p .part .rows) (p .part .width) >> afterPart k p)
-comingScaled stage.Last p = passFrom p (emit (tile7 (p .scaled) (pos 0)) >> advance (p .scaled) (p .walk .source) (p .rows))
-comingScaled (stage.Pass due.Size) p = planOut (emit (Size 0 0 0 0 0) >> passesOf (p .scaled) (p .walk))
-comingScaled (stage.Pass due.Rect) p = planOut (drawn (p .scaled) (p .walk) (p .lines) (p .next))
+comingScaled (stage.Turn (turn.Load k)) p = passFrom p (loadRows (p .scaled) (p .part .pointer) (p .part .rows) (p .part .width) >> afterPart k p)
+comingScaled (stage.Turn turn.Last) p = passFrom p (emit (tile7 (p .scaled) (pos 0)) >> advance (p .scaled) (p .walk .source) (p .rows))
+comingScaled (stage.Turn (turn.Pass due.Size)) p = planOut (emit (Size 0 0 0 0 0) >> passesOf (p .scaled) (p .walk))
+comingScaled (stage.Turn (turn.Pass due.Rect)) p = planOut (drawn (p .scaled) (p .walk) (p .lines) (p .next))
 
 abbrev pub comingReached : Reached → Plan
 comingReached (reached.At s p) = comingScaled s p

@@ -18,11 +18,14 @@ use Rattle.plan.specs.declared.types.Source.{Source}
 use Rattle.plan.specs.Out.{Out, Plan, _>>=_, _>>_, yield, refuse, emit, planOut}
 use Rattle.plan.specs.Laws.{more-nil}
 use Rattle.plan.specs.Load.{sourceAddress}
-use Rattle.plan.specs.Scaled.{tile7, loadPart, load1cycTile, back, fromTop, splitRow, upToEnd, advance, load1cyc}
+use Rattle.plan.specs.Scaled.{tile7, loadPart, load1cycTile, back, fromTop, splitRow, upToEnd, advance}
 use Rattle.passes.specs.declared.types.Part.{Part}
 use Rattle.passes.specs.declared.types.Piece.{Piece}
 use Rattle.passes.specs.declared.types.Piece.the-variants as piece
 use Rattle.passes.specs.declared.types.Due.the-variants as due
+use Rattle.passes.specs.declared.types.Choice.{Choice}
+use Rattle.passes.specs.declared.types.Choice.the-variants as choice
+use Rattle.passes.specs.declared.types.Turn.the-variants as turn
 use Rattle.passes.specs.declared.types.Stage.the-variants as stage
 use Rattle.passes.specs.declared.types.Place.{Place}
 use Rattle.passes.specs.declared.types.Reached.{Reached}
@@ -30,7 +33,7 @@ use Rattle.passes.specs.declared.types.Reached.the-variants as reached
 use Rattle.passes.specs.Coming.{loadableOf, splitRows, splitFrom, splitWidth, partsFrom, topThen, restOut, wholeOut, pieceOut, drawn, passFrom, partThen, wholeThen, afterPart, comingScaled}
 use Rattle.passes.specs.Loads.{then-assoc, partBad, part-refused, part-given, part-whole, split-on, split-off, rest-on, rest-off, top-on, top-off, load-whole, load-wraps}
 use Rattle.passes.specs.Kept.{Left, advance-left, stay-left, draw-kept}
-use Rattle.passes.specs.Sound.{SoundPass, SoundPart, SoundPiece, SoundRect, Reaches, leftPass, afterPiece}
+use Rattle.passes.specs.Sound.{SoundPass, SoundPart, SoundPiece, SoundRect, Reaches, before, Meets, Chose, leftPass, afterPiece}
 
 -- the place with another part, and with another next source
 abbrev pub withPart : Place → Part → Place
@@ -90,7 +93,7 @@ next-sound p next h l =
 
 -- the move after the loads, and the rectangle
 module _ (p : Place) (h : SoundPass p) where
-  pub moved-to : (next : Source) → yield next ≡ advance (p .scaled) (p .walk .source) (p .rows) → Reaches (passFrom p (afterPart piece.Rest p)) (1 + leftPass p) (reached.At (stage.Pass due.Rect) (withNext p next))
+  pub moved-to : (next : Source) → yield next ≡ advance (p .scaled) (p .walk .source) (p .rows) → Reaches (passFrom p (afterPart piece.Rest p)) (1 + leftPass p) (reached.At (stage.Turn (turn.Pass due.Rect)) (withNext p next))
   unfolding comingScaled pieceOut
   moved-to next e =
       record {
@@ -104,7 +107,7 @@ module _ (p : Place) (h : SoundPass p) where
   moved-refused e = ended-is p _ _ (sym e)
 
   pub on-to : (pointer : ℕ) (bytes : ℤ) → yield pointer ≡ sourceAddress (p .walk .source .pointer) bytes → bytes ≡ pos (p .scaled .stride) *ℤ p .rows
-      → Reaches (passFrom p (afterPart piece.Whole p)) (1 + leftPass p) (reached.At (stage.Pass due.Rect) (withNext p (record { pointer = pointer; remain = p .walk .source .remain -ℤ p .rows })))
+      → Reaches (passFrom p (afterPart piece.Whole p)) (1 + leftPass p) (reached.At (stage.Turn (turn.Pass due.Rect)) (withNext p (record { pointer = pointer; remain = p .walk .source .remain -ℤ p .rows })))
   unfolding comingScaled pieceOut wholeOut
   on-to pointer bytes e b =
       record {
@@ -118,7 +121,7 @@ module _ (p : Place) (h : SoundPass p) where
   on-refused bytes e b = ended-is p (wholeOut (p .scaled) (p .walk .source) (p .rows)) (1 + leftPass p) (rw (← b, ← e))
 
   -- no row before the image's last: the tile alone
-  pub rest-none : ltZ (pos 0) (loadableOf (p .scaled) (p .walk .source)) ≡ false → Reaches (passFrom p (afterPart piece.SplitA p)) (4 + leftPass p) (reached.At stage.Last p)
+  pub rest-none : ltZ (pos 0) (loadableOf (p .scaled) (p .walk .source)) ≡ false → Reaches (passFrom p (afterPart piece.SplitA p)) (4 + leftPass p) (reached.At (stage.Turn turn.Last) p)
   unfolding comingScaled pieceOut restOut
   rest-none t =
       record {
@@ -200,10 +203,49 @@ module _ (p : Place) where
 
   -- R 175: no row wraps, or one does
   pub whole-is : leZ (p .rows +ℤ pos (p .scaled .bilerp)) (loadableOf (p .scaled) (p .walk .source)) ≡ true
-      → wholeThen p (p .rows +ℤ pos (p .scaled .bilerp)) (pos (p .scaled .line)) ≡ passFrom p (load1cyc (p .scaled) (p .walk .source) (p .rows))
+      → wholeThen p (p .rows +ℤ pos (p .scaled .bilerp)) (pos (p .scaled .line)) ≡ passFrom p (afterPart piece.Start p)
   unfolding pieceOut
   whole-is t = sym (ap (passFrom p) (load-whole (p .scaled) (p .walk .source) (p .rows) t))
 
-  pub wraps-is : leZ (p .rows +ℤ pos (p .scaled .bilerp)) (loadableOf (p .scaled) (p .walk .source)) ≡ false → topThen p (p .rows +ℤ pos (p .scaled .bilerp)) ≡ passFrom p (load1cyc (p .scaled) (p .walk .source) (p .rows))
+  pub wraps-is : leZ (p .rows +ℤ pos (p .scaled .bilerp)) (loadableOf (p .scaled) (p .walk .source)) ≡ false → topThen p (p .rows +ℤ pos (p .scaled .bilerp)) ≡ passFrom p (afterPart piece.Start p)
   unfolding pieceOut
   wraps-is t = sym (ap (passFrom p) (load-wraps (p .scaled) (p .walk .source) (p .rows) t))
+
+-- each choice, with the test that leads to it
+module _ (p : Place) where
+  pub chose-whole : Meets choice.Whole p → Chose piece.Start p choice.Whole
+  chose-whole t = record { is = refl; left = omega arith; meets = t }
+
+  pub chose-top : Meets choice.Top p → Chose piece.Start p choice.Top
+  chose-top t = record { is = refl; left = omega arith; meets = t }
+
+  pub chose-split : Meets choice.SplitB p → Chose piece.Top p choice.SplitB
+  chose-split t = record { is = refl; left = omega arith; meets = t }
+
+  pub chose-split-a : Chose piece.SplitB p choice.SplitA
+  chose-split-a = record { is = refl; left = omega arith; meets = tt }
+
+  pub chose-rest : Meets choice.Rest p → Chose piece.SplitA p choice.Rest
+  chose-rest t = record { is = refl; left = omega arith; meets = t }
+
+  pub chose-last : Meets choice.Last p → Chose piece.SplitA p choice.Last
+  chose-last t = record { is = refl; left = omega arith; meets = t }
+
+  pub chose-on : Chose piece.Whole p choice.On
+  chose-on = record { is = refl; left = omega arith; meets = tt }
+
+  pub chose-move : Chose piece.Rest p choice.Move
+  chose-move = record { is = refl; left = omega arith; meets = tt }
+
+  module _ (c : Choice) where
+    -- no row runs over: the choice after the last row
+    pub chose-past : eqb (p .scaled .split) 0 ≡ true → Chose piece.SplitA p c → Chose piece.Top p c
+    chose-past t h = let l = h .left in record { is = h .is ∙ split-none p t; left = omega arith; meets = h .meets }
+
+    -- no rows from the top: the choice after them
+    pub chose-under : leZ (p .rows +ℤ pos (p .scaled .bilerp)) (loadableOf (p .scaled) (p .walk .source)) ≡ false → ltZ (pos 0) (p .rows +ℤ pos (p .scaled .bilerp) -ℤ p .walk .source .remain) ≡ false → Chose piece.Top p c → Chose piece.Start p c
+    chose-under t u h = let l = h .left in record { is = h .is ∙ top-none p (p .rows +ℤ pos (p .scaled .bilerp)) u ∙ wraps-is p t; left = omega arith; meets = h .meets }
+
+    -- what a choice reaches is what comes after the part
+    pub chose-reaches : {k : Piece} {r : Reached} → Chose k p c → Reaches (passFrom p (afterPart (before c) p)) (afterPiece (before c) + leftPass p) r → Reaches (passFrom p (afterPart k p)) (afterPiece k + leftPass p) r
+    chose-reaches h g = let l = h .left in reaches-as (h .is) (omega arith) g

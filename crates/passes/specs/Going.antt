@@ -25,15 +25,15 @@ use Rattle.plan.specs.Sound.{SoundScaled}
 use Rattle.plan.specs.Scaled.{drawOf, leftAfter, linesOf, rowsOf, nextPass, afterDraw, advance, load1cyc}
 use Rattle.passes.specs.declared.types.Part.{Part}
 use Rattle.passes.specs.declared.types.Place.{Place}
-use Rattle.passes.specs.declared.types.Reached.{Reached}
-use Rattle.passes.specs.declared.types.Reached.the-variants as reached
-use Rattle.passes.specs.Coming.{passesOf, drawn, passFrom}
+use Rattle.passes.specs.declared.types.Piece.the-variants as piece
+use Rattle.passes.specs.declared.types.Begun.{Begun}
+use Rattle.passes.specs.declared.types.Begun.the-variants as begun
+use Rattle.passes.specs.Coming.{passesOf, pieceOut, drawn}
 use Rattle.passes.specs.Rounds.{passes-over, idle-round, draw-round}
 use Rattle.passes.specs.Loads.{after-yield, after-refuse}
 use Rattle.passes.specs.Comes.{bounded, within, floor-in, times-in, difference-in, wider}
 use Rattle.passes.specs.Kept.{idle-kept, not-over}
-use Rattle.passes.specs.Enter.{reaches-as, ended-as}
-use Rattle.passes.specs.Sound.{SoundWalk, SoundPass, Runs, Reaches, dueLines, cutLines, cutRows}
+use Rattle.passes.specs.Sound.{SoundWalk, SoundPass, Runs, Begins, dueLines, cutLines, cutRows}
 
 pub pos-up : (v : ℤ) → pos 0 ≤ℤ v → v ≡ pos (up v)
 pos-up (pos n) h = refl
@@ -138,6 +138,12 @@ pass-sound z w p r d ez ew er el =
     low : (f : ℤ) (d : ℕ) → pos 1 ≤ℤ f → d ≤ 2 ^ 21 → negℤ (pos (2 ^ 21)) ≤ℤ (f -ℤ pos d)
     low f d a b = simp zdiff (omega zarith)
 
+-- a pass that draws, with nothing of its load given
+pub draw-begins : (z : Scaled) (w : Walk) (p : Place) → Runs z w → 1 ≤ drawOf w → p .scaled ≡ z → p .walk ≡ w → p .rows ≡ rowsOf z w (drawOf w) → p .lines ≡ linesOf w (drawOf w)
+    → Begins (planOut (passesOf z w)) (14 * up (w .«frame_remain»)) (begun.At piece.Start p)
+unfolding pieceOut
+draw-begins z w p r d ez ew er el = (pass-sound z w p r d ez ew er el, (rw (ez, ew, er, el) (draws-on z w r d), rw ew (let a = some-left z w r in omega arith)))
+
 -- the lines left at a pass
 pub remain-line : (p : Place) → SoundPass p → Within 32 (p .walk .«frame_remain»)
 remain-line p h = by (p .walk .«frame_remain») (h .left) (h .walk .lines)
@@ -175,11 +181,12 @@ module _ (z : Scaled) (w₀ w : Walk) (g : Gone z w₀ w) where
         by (pos c) p d = omega (arith, g .runs .scaled .frame-rows)
         by (negsuc c) p d = absurd (omega zarith)
 
-    pub gone-refused : refuse verdict.Address ≡ advance z (w .source) (w .«slice_rows») → Reaches (planOut (passesOf z w₀)) (14 * up (w₀ .«frame_remain»)) (reached.Ended verdict.Address)
-    gone-refused e = ended-as _ (idle-refused z w (g .runs) t e ∙ g .plan)
+    pub gone-refused : refuse verdict.Address ≡ advance z (w .source) (w .«slice_rows») → Begins (planOut (passesOf z w₀)) (14 * up (w₀ .«frame_remain»)) (begun.Ended verdict.Address)
+    gone-refused e = idle-refused z w (g .runs) t e ∙ g .plan
 
-  pub gone-draw : (r : Reached) → Reaches (planOut (passesOf z w)) (14 * up (w .«frame_remain»)) r → Reaches (planOut (passesOf z w₀)) (14 * up (w₀ .«frame_remain»)) r
-  gone-draw r h = let l = ap up (g .lines) in reaches-as (g .plan) (omega arith) h
+  pub gone-draw : (b : Begun) → Begins (planOut (passesOf z w)) (14 * up (w .«frame_remain»)) b → Begins (planOut (passesOf z w₀)) (14 * up (w₀ .«frame_remain»)) b
+  gone-draw (begun.At k p) h = let l = ap up (g .lines) in let n = h .1 .1 in (h .0, (h .1 .0 ∙ g .plan, omega arith))
+  gone-draw (begun.Ended v) h = h ∙ g .plan
 
 -- a pass's lines are few
 pub lines-low : (p : Place) → SoundPass p → p .lines ≤ 2 ^ 21

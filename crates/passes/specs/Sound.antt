@@ -2,9 +2,10 @@
 -- Assumes nothing.
 use mathlib.Core.Path.{_≡_}
 use Prim.Native.Nat.{ℕ, suc, _+_, _-_, _*_, _/_, _^_, _≤_, _<_}
-use mathlib.Core.Bool.{cond}
-use lib.IntN.{ℤ, pos, negℤ, _+ℤ_, _*ℤ_}
-use lib.Signed.{_≤ℤ_, ltZ}
+use mathlib.Core.Bool.{true, false, cond}
+use lib.Dec.{eqb}
+use lib.IntN.{ℤ, pos, negℤ, _+ℤ_, _-ℤ_, _*ℤ_}
+use lib.Signed.{_≤ℤ_, ltZ, leZ}
 use Rattle.signed.specs.Diff.{up, dn}
 use Rattle.signed.specs.Floor.{floorDiv, modulo}
 use Rattle.signed.specs.Cast.{minZ}
@@ -24,17 +25,23 @@ use Rattle.passes.specs.declared.types.Part.{Part}
 use Rattle.passes.specs.declared.types.Piece.{Piece}
 use Rattle.passes.specs.declared.types.Piece.the-variants as piece
 use Rattle.passes.specs.declared.types.Due.the-variants as due
+use Rattle.passes.specs.declared.types.Choice.{Choice}
+use Rattle.passes.specs.declared.types.Choice.the-variants as choice
+use Rattle.passes.specs.declared.types.Turn.{Turn}
+use Rattle.passes.specs.declared.types.Turn.the-variants as turn
 use Rattle.passes.specs.declared.types.Stage.{Stage}
 use Rattle.passes.specs.declared.types.Stage.the-variants as stage
 use Rattle.passes.specs.declared.types.Place.{Place}
 use Rattle.passes.specs.declared.types.Reached.{Reached}
 use Rattle.passes.specs.declared.types.Reached.the-variants as reached
+use Rattle.passes.specs.declared.types.Begun.{Begun}
+use Rattle.passes.specs.declared.types.Begun.the-variants as begun
 use Rattle.passes.specs.declared.types.Split.{Split}
 use Rattle.passes.specs.declared.types.Loaded.{Loaded}
 use Rattle.passes.specs.declared.types.Loaded.the-variants as loaded
 use Rattle.passes.specs.declared.types.ScaledNext.{ScaledNext}
 use Rattle.passes.specs.declared.types.ScaledNext.the-variants as next
-use Rattle.passes.specs.Coming.{loadableOf, splitFrom, splitWidth, comingReached}
+use Rattle.passes.specs.Coming.{loadableOf, splitFrom, splitWidth, passFrom, afterPart, dueWalk, comingReached}
 
 -- a walk before a pass. Each pass lowers 64 × lines left − count / 16, and `remain` by 512 rows at the most: `low` ties the two together
 pub record SoundWalk (w : Walk) : Type 0 where
@@ -108,10 +115,10 @@ soundAt stage.First p = SoundStart p
 soundAt stage.Second p = SoundStart p
 soundAt (stage.Tile k) p = SoundPiece p
 soundAt (stage.Image k) p = SoundPiece p
-soundAt (stage.Load k) p = SoundPiece p
-soundAt stage.Last p = SoundPass p
-soundAt (stage.Pass due.Size) p = SoundStart p
-soundAt (stage.Pass due.Rect) p = SoundRect p
+soundAt (stage.Turn (turn.Load k)) p = SoundPiece p
+soundAt (stage.Turn turn.Last) p = SoundPass p
+soundAt (stage.Turn (turn.Pass due.Size)) p = SoundStart p
+soundAt (stage.Turn (turn.Pass due.Rect)) p = SoundRect p
 
 abbrev pub soundReached : Reached → Type 0
 soundReached (reached.At s p) = soundAt s p
@@ -119,6 +126,7 @@ soundReached (reached.Ended v) = Unit {0}
 
 -- the entries that come after a part, its pass's rectangle included, at the most
 abbrev pub afterPiece : Piece → ℕ
+afterPiece piece.Start = 13
 afterPiece piece.Whole = 1
 afterPiece piece.Top = 10
 afterPiece piece.SplitB = 7
@@ -135,10 +143,16 @@ leftAt stage.First p = 3 + 14 * up (p .walk .«frame_remain»)
 leftAt stage.Second p = 2 + 14 * up (p .walk .«frame_remain»)
 leftAt (stage.Tile k) p = 3 + afterPiece k + leftPass p
 leftAt (stage.Image k) p = 2 + afterPiece k + leftPass p
-leftAt (stage.Load k) p = 1 + afterPiece k + leftPass p
-leftAt stage.Last p = 2 + leftPass p
-leftAt (stage.Pass due.Size) p = 1 + 14 * up (p .walk .«frame_remain»)
-leftAt (stage.Pass due.Rect) p = 1 + leftPass p
+leftAt (stage.Turn (turn.Load k)) p = 1 + afterPiece k + leftPass p
+leftAt (stage.Turn turn.Last) p = 2 + leftPass p
+leftAt (stage.Turn (turn.Pass due.Size)) p = 1 + 14 * up (p .walk .«frame_remain»)
+leftAt (stage.Turn (turn.Pass due.Rect)) p = 1 + leftPass p
+
+-- the entries after a turn's, at the most
+abbrev pub leftTurn : Turn → Place → ℕ
+leftTurn (turn.Load k) p = afterPiece k + leftPass p
+leftTurn turn.Last p = 1 + leftPass p
+leftTurn (turn.Pass d) p = 14 * up (dueWalk d p .«frame_remain»)
 
 abbrev pub leftReached : Reached → ℕ
 leftReached (reached.At s p) = leftAt s p
@@ -149,6 +163,38 @@ pub record Reaches (plan : Plan) (n : ℕ) (r : Reached) : Type 0 where
   pub is : comingReached r ≡ plan
   pub sound : soundReached r
   pub left : leftReached r ≤ n
+
+-- a pass that has just the plan to come after the part that is given, and gives at most n entries; or the end
+abbrev pub Begins : Plan → ℕ → Begun → Type 0
+Begins plan n (begun.At k p) = SoundPass p × ((passFrom p (afterPart k p) ≡ plan) × (afterPiece k + leftPass p ≤ n))
+Begins plan n (begun.Ended v) = ended [] v ≡ plan
+
+-- the part after which a choice is made, and the test that leads to it: R 175, 184, 196, 212
+abbrev pub before : Choice → Piece
+before choice.Whole = piece.Start
+before choice.Top = piece.Start
+before choice.SplitB = piece.Top
+before choice.SplitA = piece.SplitB
+before choice.Rest = piece.SplitA
+before choice.Last = piece.SplitA
+before choice.On = piece.Whole
+before choice.Move = piece.Rest
+
+abbrev pub Meets : Choice → Place → Type 0
+Meets choice.Whole p = leZ (p .rows +ℤ pos (p .scaled .bilerp)) (loadableOf (p .scaled) (p .walk .source)) ≡ true
+Meets choice.Top p = (leZ (p .rows +ℤ pos (p .scaled .bilerp)) (loadableOf (p .scaled) (p .walk .source)) ≡ false) × (ltZ (pos 0) (p .rows +ℤ pos (p .scaled .bilerp) -ℤ p .walk .source .remain) ≡ true)
+Meets choice.SplitB p = eqb (p .scaled .split) 0 ≡ false
+Meets choice.SplitA p = Unit {0}
+Meets choice.Rest p = ltZ (pos 0) (loadableOf (p .scaled) (p .walk .source)) ≡ true
+Meets choice.Last p = ltZ (pos 0) (loadableOf (p .scaled) (p .walk .source)) ≡ false
+Meets choice.On p = Unit {0}
+Meets choice.Move p = Unit {0}
+
+-- the choice after a part: what is to come is the same, and its test holds
+pub record Chose (k : Piece) (p : Place) (c : Choice) : Type 0 where
+  pub is : passFrom p (afterPart (before c) p) ≡ passFrom p (afterPart k p)
+  pub left : afterPiece (before c) ≤ afterPiece k
+  pub meets : Meets c p
 
 -- a load's answer as a part of a plan
 abbrev pub loadedOut : Loaded → Out (Unit {0})

@@ -8,6 +8,8 @@ mod walk;
 
 pub use step::scaled_next;
 pub use step::scaled_start;
+pub use types::Begun;
+pub use types::Choice;
 pub use types::Due;
 pub use types::Loaded;
 pub use types::Moved;
@@ -19,3 +21,4 @@ pub use types::ScaledNext;
 pub use types::Split;
 pub use types::Stage;
 pub use types::Sum;
+pub use types::Turn;

@@ -1,13 +1,16 @@
 // The parts of a pass's load, in their order: `load_1cyc` and `load_1cyc_tile`.
 ghost use mathlib.Core.Path.{_≡_};
+ghost use mathlib.Core.Bool.{true};
 ghost use Prim.Native.Nat.{_+_, _-_, _*_, _≤_};
+ghost use lib.IntN.{pos, _-ℤ_};
+ghost use lib.Signed.{ltZ};
 ghost use Rattle.object.specs.Range.{Within};
 ghost use Rattle.plan.specs.Sound.{SoundScaled};
-ghost use Rattle.plan.specs.Scaled.{back as backOf, load1cyc};
+ghost use Rattle.plan.specs.Scaled.{back as backOf};
 ghost use Rattle.passes.specs.Coming.{sumOut, passFrom, partThen, wholeThen, topThen, partsFrom, afterPart};
 ghost use Rattle.passes.specs.Loads.{partBad};
-ghost use Rattle.passes.specs.Sound.{SoundPass, SplitIs, Reaches, leftPass, afterPiece};
-ghost use Rattle.passes.specs.declared.types.Piece.the-variants.{Whole, Top, SplitB, SplitA, Rest};
+ghost use Rattle.passes.specs.Sound.{SoundPass, SplitIs, Reaches, Meets, Chose, leftPass, afterPiece};
+ghost use Rattle.passes.specs.declared.types.Piece.the-variants.{Start, Whole, Top, SplitB, SplitA, Rest};
 use crate::rows::difference;
 use crate::rows::less;
 use crate::rows::plus;
@@ -15,6 +18,7 @@ use crate::rows::sum;
 use crate::rows::times;
 use crate::sums::advance;
 use crate::sums::source_address;
+use crate::types::Choice;
 use crate::types::Due;
 use crate::types::Moved;
 use crate::types::Part;
@@ -24,6 +28,7 @@ use crate::types::Reached;
 use crate::types::Split;
 use crate::types::Stage;
 use crate::types::Sum;
+use crate::types::Turn;
 use object::Verdict;
 use plan::Scaled;
 use plan::Source;
@@ -95,7 +100,7 @@ fn back(z: Scaled, odd: u64, pointer: u64) -> Sum
 }
 
 // After the rows up to the image's end: the move, and the rectangle.
-pub fn moved(p: Place) -> Reached
+fn moved(p: Place) -> Reached
     requires { ⌜ SoundPass p ⌝ }
     ensures { λ r. ⌜ Reaches (passFrom p (afterPart Rest p)) (1 + leftPass p) r ⌝ }
 {
@@ -106,7 +111,7 @@ pub fn moved(p: Place) -> Reached
         Moved::To(next) => {
             let mut q = p;
             q.next = next;
-            Reached::At(Stage::Pass(Due::Rect), q)
+            Reached::At(Stage::Turn(Turn::Pass(Due::Rect)), q)
         }
     }
 }
@@ -127,23 +132,21 @@ fn moved_on(p: Place) -> Reached
             let next = Source { pointer, remain };
             let mut q = p;
             q.next = next;
-            Reached::At(Stage::Pass(Due::Rect), q)
+            Reached::At(Stage::Turn(Turn::Pass(Due::Rect)), q)
         }
     }
 }
 
-// The rows before the image's last; where there are none, the tile alone.
+// The rows before the image's last.
 fn rest(p: Place) -> Reached
     requires { ⌜ SoundPass p ⌝ }
+    requires { ⌜ Meets Choice.Rest p ⌝ }
     ensures { λ r. ⌜ Reaches (passFrom p (afterPart SplitA p)) (4 + leftPass p) r ⌝ }
 {
     let z = p.scaled;
     let w = p.walk;
     let source = w.source;
     let loadable = less(source.remain, z.split);
-    if loadable <= 0 {
-        return Reached::At(Stage::Last, p);
-    }
     enter(Piece::Rest, source.pointer, loadable, 0, z.line as i64, p)
 }
 
@@ -189,12 +192,10 @@ fn split_b(pointer: u64, spare: u64, s: Split, p: Place) -> Reached
 // The image's last row where it runs over into the first.
 fn split_row(p: Place) -> Reached
     requires { ⌜ SoundPass p ⌝ }
+    requires { ⌜ Meets Choice.SplitB p ⌝ }
     ensures { λ r. ⌜ Reaches (passFrom p (afterPart Top p)) (10 + leftPass p) r ⌝ }
 {
     let z = p.scaled;
-    if z.split == 0 {
-        return rest(p);
-    }
     let w = p.walk;
     let source = w.source;
     let s = split(z, source);
@@ -215,15 +216,13 @@ fn split_row(p: Place) -> Reached
 fn from_top(lines: i64, p: Place) -> Reached
     requires { ⌜ SoundPass p ⌝ }
     requires { ⌜ Within 44 lines ⌝ }
+    requires { ⌜ ltZ (pos 0) (lines -ℤ p .walk .source .remain) ≡ true ⌝ }
     ensures { λ r. ⌜ Reaches (topThen p lines) (13 + leftPass p) r ⌝ }
 {
     let z = p.scaled;
     let w = p.walk;
     let source = w.source;
     let rows = difference(lines, source.remain);
-    if rows <= 0 {
-        return split_row(p);
-    }
     let Sum::At(first) = source_address(z.address, z.x_offset as i64) else {
         return Reached::Ended(Verdict::Address);
     };
@@ -242,24 +241,56 @@ fn from_top(lines: i64, p: Place) -> Reached
     )
 }
 
-// What comes after a part.
-pub fn after_part(k: Piece, p: Place) -> Reached
+// A load that wraps starts with the rows from the top.
+fn top(p: Place) -> Reached
     requires { ⌜ SoundPass p ⌝ }
-    ensures { λ r. ⌜ Reaches (passFrom p (afterPart k p)) (afterPiece k + leftPass p) r ⌝ }
+    requires { ⌜ Meets Choice.Top p ⌝ }
+    ensures { λ r. ⌜ Reaches (passFrom p (afterPart Start p)) (13 + leftPass p) r ⌝ }
 {
-    match k {
-        Piece::Whole => moved_on(p),
-        Piece::Top => split_row(p),
-        Piece::SplitB => split_a(p),
-        Piece::SplitA => rest(p),
-        Piece::Rest => moved(p),
-    }
+    let z = p.scaled;
+    from_top(plus(p.rows, z.bilerp), p)
 }
 
-// The load of a pass's rows.
-pub fn load_1cyc(p: Place) -> Reached
+// A load that does not wrap is one part.
+fn whole(p: Place) -> Reached
     requires { ⌜ SoundPass p ⌝ }
-    ensures { λ r. ⌜ Reaches (passFrom p (load1cyc (p .scaled) (p .walk .source) (p .rows))) (13 + leftPass p) r ⌝ }
+    requires { ⌜ Meets Choice.Whole p ⌝ }
+    ensures { λ r. ⌜ Reaches (passFrom p (afterPart Start p)) (13 + leftPass p) r ⌝ }
+{
+    let z = p.scaled;
+    enter_whole(plus(p.rows, z.bilerp), z.line as i64, p)
+}
+
+// The rows before the image's last; where there are none, the tile alone.
+fn after_split(p: Place) -> Choice
+    requires { ⌜ SoundPass p ⌝ }
+    ensures { λ r. ⌜ Chose SplitA p r ⌝ }
+{
+    let z = p.scaled;
+    let w = p.walk;
+    let source = w.source;
+    if less(source.remain, z.split) <= 0 {
+        return Choice::Last;
+    }
+    Choice::Rest
+}
+
+// The image's last row has parts of its own only where it runs over.
+fn after_top(p: Place) -> Choice
+    requires { ⌜ SoundPass p ⌝ }
+    ensures { λ r. ⌜ Chose Top p r ⌝ }
+{
+    let z = p.scaled;
+    if z.split == 0 {
+        return after_split(p);
+    }
+    Choice::SplitB
+}
+
+// The whole load where no row wraps; else the rows from the top, where there are any.
+fn at_start(p: Place) -> Choice
+    requires { ⌜ SoundPass p ⌝ }
+    ensures { λ r. ⌜ Chose Start p r ⌝ }
 {
     let z = p.scaled;
     let w = p.walk;
@@ -267,7 +298,43 @@ pub fn load_1cyc(p: Place) -> Reached
     let load_rows = plus(p.rows, z.bilerp);
     let loadable = less(source.remain, z.split);
     if load_rows <= loadable {
-        return enter_whole(load_rows, z.line as i64, p);
+        return Choice::Whole;
     }
-    from_top(load_rows, p)
+    let rows = difference(load_rows, source.remain);
+    if rows <= 0 {
+        return after_top(p);
+    }
+    Choice::Top
+}
+
+// The part that comes after a part, chosen before it is made, so that each is made in one place.
+fn chosen(k: Piece, p: Place) -> Choice
+    requires { ⌜ SoundPass p ⌝ }
+    ensures { λ r. ⌜ Chose k p r ⌝ }
+{
+    match k {
+        Piece::Start => at_start(p),
+        Piece::Whole => Choice::On,
+        Piece::Top => after_top(p),
+        Piece::SplitB => Choice::SplitA,
+        Piece::SplitA => after_split(p),
+        Piece::Rest => Choice::Move,
+    }
+}
+
+// What comes after a part: the one call of each, so that the compiler inlines them.
+pub fn after_part(k: Piece, p: Place) -> Reached
+    requires { ⌜ SoundPass p ⌝ }
+    ensures { λ r. ⌜ Reaches (passFrom p (afterPart k p)) (afterPiece k + leftPass p) r ⌝ }
+{
+    match chosen(k, p) {
+        Choice::Whole => whole(p),
+        Choice::Top => top(p),
+        Choice::SplitB => split_row(p),
+        Choice::SplitA => split_a(p),
+        Choice::Rest => rest(p),
+        Choice::Last => Reached::At(Stage::Turn(Turn::Last), p),
+        Choice::On => moved_on(p),
+        Choice::Move => moved(p),
+    }
 }

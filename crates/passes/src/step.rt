@@ -9,12 +9,12 @@ ghost use Rattle.object.specs.Range.{Within};
 ghost use Rattle.plan.specs.Out.{planOut};
 ghost use Rattle.plan.specs.Sound.{SoundScaled, SoundFirst};
 ghost use Rattle.plan.specs.Scaled.{tile7 as tile7Of, lrsOf, lrtOf, loadRows, rectOf, scaledPlan};
-ghost use Rattle.passes.specs.Coming.{tile0 as tile0Of, imageOf, dueEntry, dueWalk, comingScaled};
-ghost use Rattle.passes.specs.Sound.{SoundPass, SoundPart, ClipIn, soundAt, leftAt, Reaches, Gave, loadedOut};
+ghost use Rattle.passes.specs.Coming.{tile0 as tile0Of, imageOf, dueEntry, dueWalk, turnOut, afterTurn, comingScaled};
+ghost use Rattle.passes.specs.Sound.{SoundPass, SoundPart, ClipIn, soundAt, leftAt, leftTurn, Reaches, Begins, Gave, loadedOut};
 use crate::load::after_part;
-use crate::load::moved;
 use crate::rows::less;
 use crate::sums::source_address;
+use crate::types::Begun;
 use crate::types::Due;
 use crate::types::Loaded;
 use crate::types::Part;
@@ -24,6 +24,7 @@ use crate::types::Reached;
 use crate::types::ScaledNext;
 use crate::types::Stage;
 use crate::types::Sum;
+use crate::types::Turn;
 use crate::walk::drawn;
 use crate::walk::next_pass;
 use object::Verdict;
@@ -185,19 +186,9 @@ fn rect(p: Place) -> Entry
     }
 }
 
-fn load_step(k: Piece, p: Place) -> ScaledNext
-    requires { ⌜ soundAt (Stage.Load k) p ⌝ }
-    ensures { λ r. ⌜ Gave (comingScaled (Stage.Load k) p) (leftAt (Stage.Load k) p) r ⌝ }
-{
-    match load(p.scaled, p.part) {
-        Loaded::Entry(entry) => ScaledNext::Entry(entry, after_part(k, p)),
-        Loaded::Refused(size) => ScaledNext::Refused(size),
-    }
-}
-
 // What is given before the next pass.
 fn due_entry(due: Due, p: Place) -> Entry
-    requires { ⌜ soundAt (Stage.Pass due) p ⌝ }
+    requires { ⌜ soundAt (Stage.Turn (Turn.Pass due)) p ⌝ }
     ensures { λ r. ⌜ r ≡ dueEntry due p ⌝ }
 {
     match due {
@@ -214,7 +205,7 @@ fn due_entry(due: Due, p: Place) -> Entry
 
 // The walk before the next pass: after a rectangle, the one that its pass leaves.
 fn due_walk(due: Due, p: Place) -> Walk
-    requires { ⌜ soundAt (Stage.Pass due) p ⌝ }
+    requires { ⌜ soundAt (Stage.Turn (Turn.Pass due)) p ⌝ }
     ensures { λ r. ⌜ r ≡ dueWalk due p ⌝ }
 {
     match due {
@@ -223,12 +214,50 @@ fn due_walk(due: Due, p: Place) -> Walk
     }
 }
 
-// The entry before a pass, and that pass: the one call of `next_pass`, so that the compiler inlines it.
-fn pass_step(due: Due, p: Place) -> ScaledNext
-    requires { ⌜ soundAt (Stage.Pass due) p ⌝ }
-    ensures { λ r. ⌜ Gave (comingScaled (Stage.Pass due) p) (leftAt (Stage.Pass due) p) r ⌝ }
+// The entry of a turn; only a load may be refused.
+fn turn_entry(turn: Turn, p: Place) -> Loaded
+    requires { ⌜ soundAt (Stage.Turn turn) p ⌝ }
+    ensures { λ r. ⌜ loadedOut r ≡ turnOut turn p ⌝ }
 {
-    ScaledNext::Entry(due_entry(due, p), next_pass(p.scaled, due_walk(due, p)))
+    match turn {
+        Turn::Load(_) => load(p.scaled, p.part),
+        Turn::Last => Loaded::Entry(tile7(p.scaled, 0)),
+        Turn::Pass(due) => Loaded::Entry(due_entry(due, p)),
+    }
+}
+
+// The pass after a turn's entry: the one that is under way, or the next.
+fn begun(turn: Turn, p: Place) -> Begun
+    requires { ⌜ soundAt (Stage.Turn turn) p ⌝ }
+    ensures { λ r. ⌜ Begins (afterTurn turn p) (leftTurn turn p) r ⌝ }
+{
+    match turn {
+        Turn::Load(k) => Begun::At(k, p),
+        Turn::Last => Begun::At(Piece::Rest, p),
+        Turn::Pass(due) => next_pass(due_walk(due, p), p),
+    }
+}
+
+// What comes after a turn's entry: the one call of `after_part`, so that the compiler inlines it.
+fn turned(turn: Turn, p: Place) -> Reached
+    requires { ⌜ soundAt (Stage.Turn turn) p ⌝ }
+    ensures { λ r. ⌜ Reaches (afterTurn turn p) (leftTurn turn p) r ⌝ }
+{
+    match begun(turn, p) {
+        Begun::At(k, q) => after_part(k, q),
+        Begun::Ended(verdict) => Reached::Ended(verdict),
+    }
+}
+
+// The entry of a turn, and what comes after it unless its load is refused.
+fn turn_step(turn: Turn, p: Place) -> ScaledNext
+    requires { ⌜ soundAt (Stage.Turn turn) p ⌝ }
+    ensures { λ r. ⌜ Gave (comingScaled (Stage.Turn turn) p) (leftAt (Stage.Turn turn) p) r ⌝ }
+{
+    match turn_entry(turn, p) {
+        Loaded::Entry(entry) => ScaledNext::Entry(entry, turned(turn, p)),
+        Loaded::Refused(size) => ScaledNext::Refused(size),
+    }
 }
 
 // What comes next of a scaled plan.
@@ -238,7 +267,10 @@ pub fn scaled_next(stage: Stage, p: Place) -> ScaledNext
 {
     match stage {
         Stage::First => ScaledNext::Entry(tile7(p.scaled, 0), Reached::At(Stage::Second, p)),
-        Stage::Second => ScaledNext::Entry(tile0(p.scaled), Reached::At(Stage::Pass(Due::Size), p)),
+        Stage::Second => {
+            let pass = Turn::Pass(Due::Size);
+            ScaledNext::Entry(tile0(p.scaled), Reached::At(Stage::Turn(pass), p))
+        }
         Stage::Tile(k) => {
             let q = p.part;
             ScaledNext::Entry(
@@ -248,11 +280,12 @@ pub fn scaled_next(stage: Stage, p: Place) -> ScaledNext
         }
         Stage::Image(k) => {
             let q = p.part;
-            ScaledNext::Entry(image(p.scaled, q.pointer), Reached::At(Stage::Load(k), p))
+            ScaledNext::Entry(
+                image(p.scaled, q.pointer),
+                Reached::At(Stage::Turn(Turn::Load(k)), p),
+            )
         }
-        Stage::Load(k) => load_step(k, p),
-        Stage::Last => ScaledNext::Entry(tile7(p.scaled, 0), moved(p)),
-        Stage::Pass(due) => pass_step(due, p),
+        Stage::Turn(turn) => turn_step(turn, p),
     }
 }
 

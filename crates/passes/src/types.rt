@@ -32,13 +32,26 @@ pub struct Split {
     pub width: i64,
 }
 
-// Which part of a pass's load is given: the whole, where no row wraps; else the rows from the image's top, the two parts of its last row, and the rows before that.
+// Which part of a pass's load is given: none yet; the whole, where no row wraps; else the rows from the image's top, the two parts of its last row, and the rows before that.
 pub enum Piece {
+    Start,
     Whole,
     Top,
     SplitB,
     SplitA,
     Rest,
+}
+
+// What comes after a part: another part, the tile alone, or the move, on where no row wraps.
+pub enum Choice {
+    Whole,
+    Top,
+    SplitB,
+    SplitA,
+    Rest,
+    Last,
+    On,
+    Move,
 }
 
 // What is given before the next pass: tile 0's size, once, or a pass's rectangle.
@@ -47,15 +60,20 @@ pub enum Due {
     Rect,
 }
 
+// The entries after which a part is chosen: a part's load, the tile alone, or what is given before a pass.
+pub enum Turn {
+    Load(Piece),
+    Last,
+    Pass(Due),
+}
+
 // Which entry comes next.
 pub enum Stage {
     First,
     Second,
     Tile(Piece),
     Image(Piece),
-    Load(Piece),
-    Last,
-    Pass(Due),
+    Turn(Turn),
 }
 
 // A pass under way: the walk before it, its rows and lines, the part that is given, the pointer of the last row's first part, and where the next pass starts.
@@ -71,6 +89,12 @@ pub struct Place {
 
 pub enum Reached {
     At(Stage, Place),
+    Ended(Verdict),
+}
+
+// A pass and the part that is given of its load, or the plan's end.
+pub enum Begun {
+    At(Piece, Place),
     Ended(Verdict),
 }
 

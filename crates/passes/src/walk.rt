@@ -1,4 +1,4 @@
-// The passes: those without a line are passed over, and one that draws starts its load.
+// The passes: those without a line are passed over, and one that draws begins.
 ghost use mathlib.Core.Path.{_≡_};
 ghost use Prim.Native.Nat.{_+_, _*_, _≤_, _<_, _^_};
 ghost use lib.IntN.{pos, negℤ};
@@ -9,17 +9,16 @@ ghost use Rattle.plan.specs.Out.{planOut};
 ghost use Rattle.plan.specs.Sound.{SoundScaled};
 ghost use Rattle.plan.specs.Scaled.{drawOf, leftAfter, linesOf, rowsOf, nextPass, afterDraw};
 ghost use Rattle.passes.specs.Coming.{passesOf};
-ghost use Rattle.passes.specs.Sound.{SoundWalk, SoundRect, Runs, Reaches, cutLines, cutRows, dueLines};
-use crate::load::load_1cyc;
+ghost use Rattle.passes.specs.Sound.{SoundWalk, SoundRect, Runs, Begins, cutLines, cutRows, dueLines};
 use crate::rows::less;
 use crate::rows::plus;
 use crate::rows::sum;
 use crate::rows::times;
 use crate::sums::advance;
+use crate::types::Begun;
 use crate::types::Moved;
-use crate::types::Part;
+use crate::types::Piece;
 use crate::types::Place;
-use crate::types::Reached;
 use object::Verdict;
 use plan::Scaled;
 use plan::Source;
@@ -79,61 +78,50 @@ fn cut_rows(z: Scaled, rows: i64, left: i64) -> i64
     }
 }
 
-// A pass that draws.
-fn draw(z: Scaled, w: Walk) -> Reached
-    requires { ⌜ Runs z w ⌝ }
+// A pass that draws, with nothing of its load given.
+fn draw(w: Walk, p: Place) -> Begun
+    requires { ⌜ Runs (p .scaled) w ⌝ }
     requires { ⌜ 1 ≤ drawOf w ⌝ }
-    ensures { λ r. ⌜ Reaches (planOut (passesOf z w)) (14 * up (w .«frame_remain»)) r ⌝ }
+    ensures { λ r. ⌜ Begins (planOut (passesOf (p .scaled) w)) (14 * up (w .«frame_remain»)) r ⌝ }
 {
     let draw = lines_due(w.count);
     let left = less(w.frame_remain, draw);
     let lines = cut_lines(draw, left);
-    let rows = cut_rows(z, w.slice_rows, left);
-    let source = w.source;
-    let part = Part {
-        pointer: 0,
-        rows: 0,
-        destination: 0,
-        width: 0,
-    };
-    load_1cyc(Place {
-        scaled: z,
-        walk: w,
-        rows,
-        lines,
-        part,
-        spare: 0,
-        next: source,
-    })
+    let rows = cut_rows(p.scaled, w.slice_rows, left);
+    let mut q = p;
+    q.walk = w;
+    q.rows = rows;
+    q.lines = lines;
+    Begun::At(Piece::Start, q)
 }
 
 // The next pass that draws, from a walk with lines left.
-fn running(z: Scaled, walk: Walk) -> Reached
-    requires { ⌜ Runs z walk ⌝ }
-    ensures { λ r. ⌜ Reaches (planOut (passesOf z walk)) (14 * up (walk .«frame_remain»)) r ⌝ }
+fn running(walk: Walk, p: Place) -> Begun
+    requires { ⌜ Runs (p .scaled) walk ⌝ }
+    ensures { λ r. ⌜ Begins (planOut (passesOf (p .scaled) walk)) (14 * up (walk .«frame_remain»)) r ⌝ }
 {
     let mut w = walk;
     while lines_due(w.count) == 0 {
         let source = w.source;
-        let Moved::To(next) = advance(z, source, w.slice_rows) else {
-            return Reached::Ended(Verdict::Address);
+        let Moved::To(next) = advance(p.scaled, source, w.slice_rows) else {
+            return Begun::Ended(Verdict::Address);
         };
-        w = next_walk(z, w.frame_y, w.frame_remain, w.count, next);
+        w = next_walk(p.scaled, w.frame_y, w.frame_remain, w.count, next);
     }
-    draw(z, w)
+    draw(w, p)
 }
 
 // The next pass that draws, or the end.
-pub fn next_pass(z: Scaled, w: Walk) -> Reached
-    requires { ⌜ SoundScaled z ⌝ }
+pub fn next_pass(w: Walk, p: Place) -> Begun
+    requires { ⌜ SoundScaled (p .scaled) ⌝ }
     requires { ⌜ (pos 1 ≤ℤ w .«frame_remain» → SoundWalk w) ⌝ }
-    ensures { λ r. ⌜ Reaches (planOut (passesOf z w)) (14 * up (w .«frame_remain»)) r ⌝ }
+    ensures { λ r. ⌜ Begins (planOut (passesOf (p .scaled) w)) (14 * up (w .«frame_remain»)) r ⌝ }
 {
     let remain = w.frame_remain;
     if remain <= 0 {
-        return Reached::Ended(Verdict::Finished);
+        return Begun::Ended(Verdict::Finished);
     }
-    running(z, w)
+    running(w, p)
 }
 
 // The walk after a pass that has drawn.

@@ -1,4 +1,4 @@
--- `passes::load::rest` meets its contract: the rows before the last, or the tile alone. Assumes nothing.
+-- `passes::load::rest` meets its contract: the rows before the last are the definition's. Assumes nothing.
 use borrow.Author.Needs.{needs}
 use mathlib.Core.Path.{_≡_, refl, sym, ap, _∙_}
 use lib.Dec.{lit≤, lit<}
@@ -9,8 +9,7 @@ use Rattle.signed.specs.Word.{rd, rdn, rk}
 use native.Mathlib.Omega.{arith}
 use Rattle.passes.specs.Comes.{wider, read-in, less-in, within}
 use Rattle.passes.specs.Kept.{remain-in}
-use Rattle.passes.specs.Loads.{positive, none-left}
-use Rattle.passes.specs.Enter.{rest-none, rest-is, reaches-as}
+use Rattle.passes.specs.Enter.{rest-is, reaches-as}
 use Rattle.passes.specs.Coming.{loadableOf}
 use Rattle.object.specs.Range.{Within}
 use Rattle.signed.specs.Diff.{zarith}
@@ -18,36 +17,33 @@ use Rattle.passes.proofs.load.rest.Statement.{statement}
 use Rattle.passes.proofs.load.rest.Tie as tie
 
 remain-is : (c : tie.Start) → toZ w64 (ofZ w64 (c .args .p .walk .source .remain)) ≡ c .args .p .walk .source .remain
-remain-is c = read-in 43 _ (lit≤ tt) (remain-in (c .args .p .walk) (c .pre .walk))
+remain-is c = read-in 43 _ (lit≤ tt) (remain-in (c .args .p .walk) (c .pre .0 .walk))
 
 less-requires : tie.Need-less-requires
-less-requires c κs = let s = c .before .before .before .before in (rw (remain-is s) (wider 43 61 _ (lit≤ tt) (remain-in (s .args .p .walk) (s .pre .walk))), omega (arith, s .pre .scaled .split))
+less-requires c κs = let s = c .before .before .before .before in (rw (remain-is s) (wider 43 61 _ (lit≤ tt) (remain-in (s .args .p .walk) (s .pre .0 .walk))), omega (arith, s .pre .0 .scaled .split))
 
 left-is : (c : tie.After-less) → toZ w64 (ofZ w64 (c .less .result)) ≡ loadableOf (c .before .before .before .before .before .args .p .scaled) (c .before .before .before .before .before .args .p .walk .source)
 left-is c = rk _ (c .less .ok) ∙ (rw (remain-is (c .before .before .before .before .before)) at (c .less .ensures))
 
 left-in : (s : tie.Start) → Within 47 (loadableOf (s .args .p .scaled) (s .args .p .walk .source))
-left-in s = wider 44 47 _ (lit≤ tt) (less-in 43 _ (s .args .p .scaled .split) (remain-in (s .args .p .walk) (s .pre .walk)) (omega (arith, s .pre .scaled .split)))
-
-returns : tie.Need-returns
-returns c = let s = c .before .before .before .before .before .before in rest-none (s .args .p) (s .pre) (none-left (loadableOf (s .args .p .scaled) (s .args .p .walk .source)) (rw (left-is (c .before)) at (c .if1 .taken)))
+left-in s = wider 44 47 _ (lit≤ tt) (less-in 43 _ (s .args .p .scaled .split) (remain-in (s .args .p .walk) (s .pre .0 .walk)) (omega (arith, s .pre .0 .scaled .split)))
 
 cast-enter : tie.Need-cast-enter
 cast-enter c = search needs
 
 line-in : (s : tie.Start) → Within 47 (pos (s .args .p .scaled .line))
-line-in s = let h = s .pre .scaled .line′ in record { low = omega zarith; high = omega zarith }
+line-in s = let h = s .pre .0 .scaled .line′ in record { low = omega zarith; high = omega zarith }
 
 enter-requires : tie.Need-enter-requires
 enter-requires c κs =
-    let s = c .before .before .before .before .before .before .before in
-    (s .pre, (rw (left-is (c .before .before)) (left-in s), rw (rdn (s .args .p .scaled .line) (cast-enter c .sfits)) (line-in s)))
+    let s = c .before .before .before .before .before .before in
+    (s .pre .0, (rw (left-is (c .before)) (left-in s), rw (rdn (s .args .p .scaled .line) (cast-enter c .sfits)) (line-in s)))
 
-returns-2 : tie.Need-returns-2
-returns-2 c =
-    let s = c .before .before .before .before .before .before .before .before in
+returns : tie.Need-returns
+returns c =
+    let s = c .before .before .before .before .before .before .before in
     let p = s .args .p in
-    reaches-as (rest-is p (positive (loadableOf (p .scaled) (p .walk .source)) (rw (left-is (c .before .before .before)) at (c .before .before .if1 .left)))) (omega arith) (rw (left-is (c .before .before .before), rdn (p .scaled .line) (cast-enter (c .before) .sfits)) at (c .enter .ensures))
+    reaches-as (rest-is p (s .pre .1)) (omega arith) (rw (left-is (c .before .before), rdn (p .scaled .line) (cast-enter (c .before) .sfits)) at (c .enter .ensures))
 
 pub rest-spec : {M : Type 1} → statement M
-rest-spec = tie.close (tie.spec less-requires returns cast-enter enter-requires returns-2)
+rest-spec = tie.close (tie.spec less-requires cast-enter enter-requires returns)

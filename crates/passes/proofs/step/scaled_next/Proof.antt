@@ -1,12 +1,7 @@
 -- `passes::step::scaled_next` meets its contract: each stage has its law. Assumes nothing.
 use borrow.Author.Needs.{needs}
-use mathlib.Core.Path.{_≡_, refl, sym, ap, _∙_}
-use Rattle.passes.specs.Given.{give-first, give-second, give-tile, give-image, give-last}
-use Rattle.signed.specs.Word.{rd, rk}
-use Rattle.passes.specs.Sound.{soundAt}
-use Rattle.passes.specs.declared.types.Place.{Place}
-use Rattle.passes.specs.declared.types.Stage.{Stage}
-use mathlib.Core.Path.{subst}
+use Rattle.passes.specs.Given.{give-first, give-second, give-tile, give-image}
+use Rattle.signed.specs.Word.{rk}
 use Rattle.passes.proofs.step.scaled_next.Statement.{statement}
 use Rattle.passes.proofs.step.scaled_next.Tie as tie
 
@@ -37,23 +32,8 @@ image-requires c κs = (rw (c .before .before .stage2 .given .1) at (c .before .
 enum-known-stage-3 : tie.Need-enum-known-stage-3
 enum-known-stage-3 c = search needs
 
-load-step-requires : tie.Need-load-step-requires
-load-step-requires c κs = rw (c .before .stage3 .given .1) at (c .before .before .before .pre)
-
-enum-told-3 : tie.Need-enum-told-3
-enum-told-3 c = search needs
-
-tile7-requires-3 : tie.Need-tile7-requires-3
-tile7-requires-3 c κs = search needs
-
-moved-requires : tie.Need-moved-requires
-moved-requires c κs = rw (c .before .enum-told3 .given .1) at (c .before .before .before .pre)
-
-enum-known-stage-4 : tie.Need-enum-known-stage-4
-enum-known-stage-4 c = search needs
-
-pass-step-requires : tie.Need-pass-step-requires
-pass-step-requires c κs = rw (c .before .stage4 .given .1) at (c .before .before .before .pre)
+turn-step-requires : tie.Need-turn-step-requires
+turn-step-requires c κs = rw (c .before .stage3 .given .1) at (c .before .before .before .pre)
 
 returns : tie.Need-returns
 returns c =
@@ -77,13 +57,7 @@ returns-4 c =
     rw e (give-image (c .before .before .before .before .before .args .p) _ _ (c .image .ensures) (rw e at (c .before .before .before .before .before .pre)))
 
 returns-5 : tie.Need-returns-5
-returns-5 c = rw (c .before .before .stage3 .given .1) (c .load-step .ensures)
-
-returns-6 : tie.Need-returns-6
-returns-6 c = rw (c .before .before .enum-told3 .given .1) (give-last (c .before .before .before .before .args .p) _ _ (c .before .tile73 .ensures) (c .moved .ensures))
-
-returns-7 : tie.Need-returns-7
-returns-7 c = rw (c .before .before .stage4 .given .1) (c .pass-step .ensures)
+returns-5 c = rw (c .before .before .stage3 .given .1) (c .turn-step .ensures)
 
 pub scaled-next-spec : {M : Type 1} → statement M
 scaled-next-spec =
@@ -98,16 +72,9 @@ scaled-next-spec =
     enum-known-stage-2
     image-requires
     enum-known-stage-3
-    load-step-requires
-    enum-told-3
-    tile7-requires-3
-    moved-requires
-    enum-known-stage-4
-    pass-step-requires
+    turn-step-requires
     returns
     returns-2
     returns-3
     returns-4
-    returns-5
-    returns-6
-    returns-7)
+    returns-5)

@@ -1,19 +1,15 @@
--- `passes::walk::draw` meets its contract: the pass is the definition's, and its load has the rest. Assumes nothing.
-use borrow.Author.Needs.{needs}
+-- `passes::walk::draw` meets its contract: the pass is the definition's, and its law has the rest. Assumes nothing.
 use mathlib.Core.Path.{_≡_, refl, sym, ap, _∙_}
 use lib.Dec.{lit≤, lit<}
-use lib.IntN.{ℤ, pos, negℤ, _+ℤ_, _-ℤ_, _*ℤ_}
 use mir.Syntax.{w64}
 use mir.Val.{toZ, ofZ}
-use Rattle.signed.specs.Word.{rd, rdn, rk}
+use Rattle.signed.specs.Word.{rk}
 use native.Mathlib.Omega.{arith}
-use Rattle.signed.specs.Diff.{up, dn, zdiff, zparts, zarith}
 use Rattle.object.specs.Range.{Within}
 use Rattle.plan.specs.Scaled.{drawOf, leftAfter, linesOf, rowsOf}
 use Rattle.passes.specs.Comes.{wider, read-in, less-in}
 use Rattle.passes.specs.Kept.{slice-in}
-use Rattle.passes.specs.Going.{count-in, lines-in, draws-on, due-low, pass-sound}
-use Rattle.passes.specs.Enter.{reaches-as}
+use Rattle.passes.specs.Going.{count-in, lines-in, due-low, draw-begins}
 use Rattle.passes.proofs.walk.draw.Statement.{statement}
 use Rattle.passes.proofs.walk.draw.Tie as tie
 
@@ -29,16 +25,16 @@ due-is c = rw (count-is (c .before .before)) at (c .lines-due .ensures .0)
 less-requires : tie.Need-less-requires
 less-requires c κs =
     let s = c .before .before .before in
-    let f = lines-in (s .args .z) (s .args .w) (s .pre .0) in
+    let f = lines-in (s .args .p .scaled) (s .args .w) (s .pre .0) in
     (rw (read-in 32 _ (lit≤ tt) f) (wider 32 61 _ (lit≤ tt) f), omega (arith, c .before .lines-due .ensures .1))
 
 left-is : (c : tie.After-less) → toZ w64 (ofZ w64 (c .less .result)) ≡ leftAfter (c .before .before .before .before .args .w) (drawOf (c .before .before .before .before .args .w))
 left-is c =
     let s = c .before .before .before .before in
-    rk _ (c .less .ok) ∙ (rw (read-in 32 _ (lit≤ tt) (lines-in (s .args .z) (s .args .w) (s .pre .0)), due-is (c .before .before)) at (c .less .ensures))
+    rk _ (c .less .ok) ∙ (rw (read-in 32 _ (lit≤ tt) (lines-in (s .args .p .scaled) (s .args .w) (s .pre .0)), due-is (c .before .before)) at (c .less .ensures))
 
 left-in : (s : tie.Start) → Within 40 (leftAfter (s .args .w) (drawOf (s .args .w)))
-left-in s = wider 33 40 _ (lit≤ tt) (less-in 32 _ (drawOf (s .args .w)) (lines-in (s .args .z) (s .args .w) (s .pre .0)) (omega (arith, due-low (s .args .w .count) (s .pre .0 .walk .count′))))
+left-in s = wider 33 40 _ (lit≤ tt) (less-in 32 _ (drawOf (s .args .w)) (lines-in (s .args .p .scaled) (s .args .w) (s .pre .0)) (omega (arith, due-low (s .args .w .count) (s .pre .0 .walk .count′))))
 
 cut-lines-requires : tie.Need-cut-lines-requires
 cut-lines-requires c κs = (c .before .before .lines-due .ensures .1, rw (left-is c) (left-in (c .before .before .before .before)))
@@ -49,7 +45,7 @@ cut-rows-requires c κs =
     let r = slice-in (s .args .w) (s .pre .0 .walk) in
     (s .pre .0 .scaled, (rw (read-in 43 _ (lit≤ tt) r) r, rw (left-is (c .before .before)) (left-in s)))
 
-rows-is : (c : tie.After-cut-rows) → toZ w64 (ofZ w64 (c .cut-rows .result)) ≡ rowsOf (c .before .before .before .before .before .before .before .args .z) (c .before .before .before .before .before .before .before .args .w) (drawOf (c .before .before .before .before .before .before .before .args .w))
+rows-is : (c : tie.After-cut-rows) → toZ w64 (ofZ w64 (c .cut-rows .result)) ≡ rowsOf (c .before .before .before .before .before .before .before .args .p .scaled) (c .before .before .before .before .before .before .before .args .w) (drawOf (c .before .before .before .before .before .before .before .args .w))
 rows-is c =
     let s = c .before .before .before .before .before .before .before in
     rk _ (c .cut-rows .ok) ∙ (rw (read-in 43 _ (lit≤ tt) (slice-in (s .args .w) (s .pre .0 .walk)), left-is (c .before .before .before)) at (c .cut-rows .ensures))
@@ -57,16 +53,10 @@ rows-is c =
 lines-is : (c : tie.After-cut-lines) → c .cut-lines .result ≡ linesOf (c .before .before .before .before .before .args .w) (drawOf (c .before .before .before .before .before .args .w))
 lines-is c = rw (left-is (c .before), due-is (c .before .before .before)) at (c .cut-lines .ensures)
 
-load-1cyc-requires : tie.Need-load-1cyc-requires
-load-1cyc-requires c κs =
-    let s = c .before .before .before .before .before .before .before .before in
-    pass-sound (s .args .z) (s .args .w) _ (s .pre .0) (s .pre .1) refl refl (rows-is (c .before)) (lines-is (c .before .before .before))
-
 returns : tie.Need-returns
 returns c =
-    let s = c .before .before .before .before .before .before .before .before .before in
-    let l = s .pre .0 .left in
-    reaches-as (draws-on (s .args .z) (s .args .w) (s .pre .0) (s .pre .1)) (omega zarith) (rw (rows-is (c .before .before), lines-is (c .before .before .before .before)) at (c .load-1cyc .ensures))
+    let s = c .before .before .before .before .before .before .before in
+    draw-begins (s .args .p .scaled) (s .args .w) _ (s .pre .0) (s .pre .1) refl refl (rows-is c) (lines-is (c .before .before))
 
 pub draw-spec : {M : Type 1} → statement M
 draw-spec =
@@ -76,5 +66,4 @@ draw-spec =
     less-requires
     cut-lines-requires
     cut-rows-requires
-    load-1cyc-requires
     returns)

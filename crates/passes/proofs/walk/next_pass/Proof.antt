@@ -8,7 +8,6 @@ use Rattle.signed.specs.Diff.{up, dn, zdiff, zparts, zarith}
 use lib.IntN.{ℤ, pos, negℤ, _+ℤ_, _-ℤ_, _*ℤ_}
 use lib.Signed.{_≤ℤ_}
 use Prim.Native.Nat.{_≤_}
-use Rattle.passes.specs.Enter.{ended-as}
 use Rattle.passes.specs.Rounds.{passes-over}
 use Rattle.plan.specs.Out.{planOut}
 use Rattle.passes.proofs.walk.next_pass.Statement.{statement}
@@ -22,7 +21,7 @@ returns : tie.Need-returns
 returns c =
     let w = c .before .before .args .w in
     let t = rw (left-is (c .before)) at (c .if1 .taken) in
-    ended-as _ (sym (ap planOut (passes-over (c .before .before .args .z) w (none (w .«frame_remain») (omega zarith)))))
+    sym (ap planOut (passes-over (c .before .before .args .p .scaled) w (none (w .«frame_remain») (omega zarith))))
   where
     none : (v : ℤ) → v ≤ℤ pos 0 → up v ≡ 0
     none v h = omega zarith

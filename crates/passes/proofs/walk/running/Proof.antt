@@ -24,10 +24,10 @@ use Rattle.passes.proofs.walk.running.Statement.{statement}
 use Rattle.passes.proofs.walk.running.Tie as tie
 
 abbrev Inv-loop : tie.InvT-loop
-Inv-loop z w₀ w = Gone z w₀ w
+Inv-loop p w₀ w = Gone (p .scaled) w₀ w
 
 abbrev μ-loop : tie.MeasureT-loop
-μ-loop z w₀ w = 1024 - up (w .count)
+μ-loop p w₀ w = 1024 - up (w .count)
 
 count-is : (z : Scaled) (w₀ w : Walk) → Gone z w₀ w → toZ w64 (ofZ w64 (w .count)) ≡ w .count
 count-is z w₀ w g = read-in 32 _ (lit≤ tt) (count-in w (g .runs .walk))
@@ -67,7 +67,7 @@ next-walk-requires c κs =
     (g .runs .scaled, rw (count-is _ _ _ g) (wider 32 61 _ (lit≤ tt) (count-in w (g .runs .walk))))
 
 -- the walk after the pass, and where its source comes from
-after-is : (c : tie.After-next-walk Inv-loop μ-loop) → c .next-walk .result ≡ nextPass (c .before .before .before .before .before .before .before .before .before .before .before .before .before .args .z) (c .before .before .before .before .before .before .before .before .before .before .before .before .loop .w .«frame_y») (c .before .before .before .before .before .before .before .before .before .before .before .before .loop .w .«frame_remain») (c .before .before .before .before .before .before .before .before .before .before .before .before .loop .w .count) (c .before .before .before .before .next .given .0 .0)
+after-is : (c : tie.After-next-walk Inv-loop μ-loop) → c .next-walk .result ≡ nextPass (c .before .before .before .before .before .before .before .before .before .before .before .before .before .args .p .scaled) (c .before .before .before .before .before .before .before .before .before .before .before .before .loop .w .«frame_y») (c .before .before .before .before .before .before .before .before .before .before .before .before .loop .w .«frame_remain») (c .before .before .before .before .before .before .before .before .before .before .before .before .loop .w .count) (c .before .before .before .before .next .given .0 .0)
 after-is c =
     let w = c .before .before .before .before .before .before .before .before .before .before .before .before .loop .w in
     let g = c .before .before .before .before .before .before .before .before .before .before .before .before .loop .inv in
@@ -92,7 +92,7 @@ draw-requires c κs =
     some-due (suc n) h = omega arith
 
 returns-2 : tie.Need-returns-2 Inv-loop μ-loop
-returns-2 c = gone-draw _ _ _ (c .before .before .before .before .loop .inv) _ (c .draw .ensures)
+returns-2 c = gone-draw _ _ _ (c .before .before .before .before .loop .inv) (c .draw .result) (c .draw .ensures)
 
 pub running-spec : {M : Type 1} → statement M
 running-spec =
