@@ -133,6 +133,12 @@ abbrev pub dueWalk : Due → Place → Walk
 dueWalk due.Size p = p .walk
 dueWalk due.Rect p = afterDraw (p .scaled) (p .walk) (drawOf (p .walk)) (p .lines) (p .next)
 
+-- the stage that gives a turn's entry
+abbrev pub stageOf : Turn → Stage
+stageOf (turn.Load k) = stage.Load k
+stageOf turn.Last = stage.Last
+stageOf (turn.Pass d) = stage.Pass d
+
 -- the entry of a turn, or the size that a refused load has set; and what comes after it
 abbrev pub turnOut : Turn → Place → Out (Unit {0})
 turnOut (turn.Load k) p = loadRows (p .scaled) (p .part .pointer) (p .part .rows) (p .part .width)
@@ -149,10 +155,10 @@ comingScaled stage.First p = planOut (emit (tile7 (p .scaled) (pos 0)) >> (emit 
 comingScaled stage.Second p = planOut (emit (tile0 (p .scaled)) >> (emit (Size 0 0 0 0 0) >> passesOf (p .scaled) (p .walk)))
 comingScaled (stage.Tile k) p = passFrom p (emit (tile7 (p .scaled) (p .part .destination)) >> (partOut p >> afterPart k p))
 comingScaled (stage.Image k) p = passFrom p (partOut p >> afterPart k p)
-comingScaled (stage.Turn (turn.Load k)) p = passFrom p (loadRows (p .scaled) (p .part .pointer) (p .part .rows) (p .part .width) >> afterPart k p)
-comingScaled (stage.Turn turn.Last) p = passFrom p (emit (tile7 (p .scaled) (pos 0)) >> advance (p .scaled) (p .walk .source) (p .rows))
-comingScaled (stage.Turn (turn.Pass due.Size)) p = planOut (emit (Size 0 0 0 0 0) >> passesOf (p .scaled) (p .walk))
-comingScaled (stage.Turn (turn.Pass due.Rect)) p = planOut (drawn (p .scaled) (p .walk) (p .lines) (p .next))
+comingScaled (stage.Load k) p = passFrom p (loadRows (p .scaled) (p .part .pointer) (p .part .rows) (p .part .width) >> afterPart k p)
+comingScaled stage.Last p = passFrom p (emit (tile7 (p .scaled) (pos 0)) >> advance (p .scaled) (p .walk .source) (p .rows))
+comingScaled (stage.Pass due.Size) p = planOut (emit (Size 0 0 0 0 0) >> passesOf (p .scaled) (p .walk))
+comingScaled (stage.Pass due.Rect) p = planOut (drawn (p .scaled) (p .walk) (p .lines) (p .next))
 
 abbrev pub comingReached : Reached → Plan
 comingReached (reached.At s p) = comingScaled s p

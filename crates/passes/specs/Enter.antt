@@ -93,7 +93,7 @@ next-sound p next h l =
 
 -- the move after the loads, and the rectangle
 module _ (p : Place) (h : SoundPass p) where
-  pub moved-to : (next : Source) → yield next ≡ advance (p .scaled) (p .walk .source) (p .rows) → Reaches (passFrom p (afterPart piece.Rest p)) (1 + leftPass p) (reached.At (stage.Turn (turn.Pass due.Rect)) (withNext p next))
+  pub moved-to : (next : Source) → yield next ≡ advance (p .scaled) (p .walk .source) (p .rows) → Reaches (passFrom p (afterPart piece.Rest p)) (1 + leftPass p) (reached.At (stage.Pass due.Rect) (withNext p next))
   unfolding comingScaled pieceOut
   moved-to next e =
       record {
@@ -107,7 +107,7 @@ module _ (p : Place) (h : SoundPass p) where
   moved-refused e = ended-is p _ _ (sym e)
 
   pub on-to : (pointer : ℕ) (bytes : ℤ) → yield pointer ≡ sourceAddress (p .walk .source .pointer) bytes → bytes ≡ pos (p .scaled .stride) *ℤ p .rows
-      → Reaches (passFrom p (afterPart piece.Whole p)) (1 + leftPass p) (reached.At (stage.Turn (turn.Pass due.Rect)) (withNext p (record { pointer = pointer; remain = p .walk .source .remain -ℤ p .rows })))
+      → Reaches (passFrom p (afterPart piece.Whole p)) (1 + leftPass p) (reached.At (stage.Pass due.Rect) (withNext p (record { pointer = pointer; remain = p .walk .source .remain -ℤ p .rows })))
   unfolding comingScaled pieceOut wholeOut
   on-to pointer bytes e b =
       record {
@@ -121,7 +121,7 @@ module _ (p : Place) (h : SoundPass p) where
   on-refused bytes e b = ended-is p (wholeOut (p .scaled) (p .walk .source) (p .rows)) (1 + leftPass p) (rw (← b, ← e))
 
   -- no row before the image's last: the tile alone
-  pub rest-none : ltZ (pos 0) (loadableOf (p .scaled) (p .walk .source)) ≡ false → Reaches (passFrom p (afterPart piece.SplitA p)) (4 + leftPass p) (reached.At (stage.Turn turn.Last) p)
+  pub rest-none : ltZ (pos 0) (loadableOf (p .scaled) (p .walk .source)) ≡ false → Reaches (passFrom p (afterPart piece.SplitA p)) (4 + leftPass p) (reached.At stage.Last p)
   unfolding comingScaled pieceOut restOut
   rest-none t =
       record {

@@ -41,7 +41,7 @@ use Rattle.passes.specs.declared.types.Place.{Place}
 use Rattle.passes.specs.declared.types.Reached.{Reached}
 use Rattle.passes.specs.declared.types.Reached.the-variants as reached
 use Rattle.passes.specs.declared.types.ScaledNext.the-variants as next
-use Rattle.passes.specs.Coming.{passesOf, pieceOut, drawn, passFrom, tile0, imageOf, partOut, afterPart, dueEntry, dueWalk, turnOut, afterTurn, comingScaled}
+use Rattle.passes.specs.Coming.{stageOf, passesOf, pieceOut, drawn, passFrom, tile0, imageOf, partOut, afterPart, dueEntry, dueWalk, turnOut, afterTurn, comingScaled}
 use Rattle.passes.specs.Loads.{emit-first, emit-plan, then-assoc, after-yield, after-refuse}
 use Rattle.passes.specs.Sound.{SoundWalk, SoundPass, SoundPiece, SoundRect, SoundStart, ClipIn, soundAt, Reaches, Gave, leftAt, leftTurn, leftReached, leftPass, afterPiece}
 use Rattle.passes.specs.Enter.{ended-as}
@@ -143,11 +143,11 @@ module _ (p : Place) where
   unfolding comingScaled
   give-first e i h = (rw i (emit-plan (tile7 (p .scaled) (pos 0)) (emit (tile0 (p .scaled)) >> (emit (Size 0 0 0 0 0) >> passesOf (p .scaled) (p .walk)))), (h, (omega arith, rw i (tile7-in (p .scaled) (pos 0)))))
 
-  pub give-second : (e : Entry) → e ≡ tile0 (p .scaled) → SoundStart p → Gave (comingScaled stage.Second p) (leftAt stage.Second p) (next.Entry e (reached.At (stage.Turn (turn.Pass due.Size)) p))
+  pub give-second : (e : Entry) → e ≡ tile0 (p .scaled) → SoundStart p → Gave (comingScaled stage.Second p) (leftAt stage.Second p) (next.Entry e (reached.At (stage.Pass due.Size) p))
   unfolding comingScaled
   give-second e i h = (rw i (emit-plan (tile0 (p .scaled)) (emit (Size 0 0 0 0 0) >> passesOf (p .scaled) (p .walk))), (h, (omega arith, rw i (tile0-in (p .scaled) (h .scaled)))))
 
-  give-size : (r : Reached) → Reaches (planOut (passesOf (p .scaled) (p .walk))) (14 * up (p .walk .«frame_remain»)) r → Gave (comingScaled (stage.Turn (turn.Pass due.Size)) p) (leftAt (stage.Turn (turn.Pass due.Size)) p) (next.Entry (Size 0 0 0 0 0) r)
+  give-size : (r : Reached) → Reaches (planOut (passesOf (p .scaled) (p .walk))) (14 * up (p .walk .«frame_remain»)) r → Gave (comingScaled (stage.Pass due.Size) p) (leftAt (stage.Pass due.Size) p) (next.Entry (Size 0 0 0 0 0) r)
   unfolding comingScaled
   give-size r g = let l = g .left in (emit-plan (Size 0 0 0 0 0) (passesOf (p .scaled) (p .walk)) ∙ ap (cons (Size 0 0 0 0 0)) (sym (g .is)), (g .sound, (omega arith, plain-in)))
 
@@ -156,27 +156,27 @@ module _ (p : Place) where
     unfolding comingScaled
     give-tile e i h = (rw i (pass-first p (tile7 (p .scaled) (p .part .destination)) (partOut p >> afterPart k p)), (h, (omega arith, rw i (tile7-in (p .scaled) (p .part .destination)))))
 
-    pub give-image : (e : Entry) → e ≡ imageOf (p .scaled) (p .part .pointer) → SoundPiece p → Gave (comingScaled (stage.Image k) p) (leftAt (stage.Image k) p) (next.Entry e (reached.At (stage.Turn (turn.Load k)) p))
+    pub give-image : (e : Entry) → e ≡ imageOf (p .scaled) (p .part .pointer) → SoundPiece p → Gave (comingScaled (stage.Image k) p) (leftAt (stage.Image k) p) (next.Entry e (reached.At (stage.Load k) p))
     unfolding comingScaled loadPart
     give-image e i h =
         (rw i (ap (passFrom p) (then-assoc (emit (imageOf (p .scaled) (p .part .pointer))) (loadRows (p .scaled) (p .part .pointer) (p .part .rows) (p .part .width)) (afterPart k p)) ∙ pass-first p (imageOf (p .scaled) (p .part .pointer)) (loadRows (p .scaled) (p .part .pointer) (p .part .rows) (p .part .width) >> afterPart k p)), (h, (omega arith, rw i (image-in (p .scaled) (p .part .pointer)))))
 
     give-load : (e : Entry) (r : Reached) → emit e ≡ loadRows (p .scaled) (p .part .pointer) (p .part .rows) (p .part .width) → Reaches (passFrom p (afterPart k p)) (afterPiece k + leftPass p) r
-        → Gave (comingScaled (stage.Turn (turn.Load k)) p) (leftAt (stage.Turn (turn.Load k)) p) (next.Entry e r)
+        → Gave (comingScaled (stage.Load k) p) (leftAt (stage.Load k) p) (next.Entry e r)
     unfolding comingScaled
     give-load e r i g = let l = g .left in (rw (← i) (pass-first p e (afterPart k p)) ∙ ap (cons e) (sym (g .is)), (g .sound, (omega arith, load-in (p .scaled) (p .part .pointer) (p .part .rows) (p .part .width) e i)))
 
     refuse-load : (e : Entry) → stop [] (e ∷ []) verdict.Address ≡ loadRows (p .scaled) (p .part .pointer) (p .part .rows) (p .part .width)
-        → Gave (comingScaled (stage.Turn (turn.Load k)) p) (leftAt (stage.Turn (turn.Load k)) p) (next.Refused e)
+        → Gave (comingScaled (stage.Load k) p) (leftAt (stage.Load k) p) (next.Refused e)
     unfolding comingScaled
     refuse-load e i = (rw (← i), subst firstNarrow (sym i) (load-narrow (p .scaled) (p .part .pointer) (p .part .rows) (p .part .width)))
 
-  give-last : (e : Entry) (r : Reached) → e ≡ tile7 (p .scaled) (pos 0) → Reaches (passFrom p (afterPart piece.Rest p)) (1 + leftPass p) r → Gave (comingScaled (stage.Turn turn.Last) p) (leftAt (stage.Turn turn.Last) p) (next.Entry e r)
+  give-last : (e : Entry) (r : Reached) → e ≡ tile7 (p .scaled) (pos 0) → Reaches (passFrom p (afterPart piece.Rest p)) (1 + leftPass p) r → Gave (comingScaled stage.Last p) (leftAt stage.Last p) (next.Entry e r)
   unfolding comingScaled pieceOut
   give-last e r i g = let l = g .left in (ap (λ (x : Entry). passFrom p (emit x >> advance (p .scaled) (p .walk .source) (p .rows))) (sym i) ∙ pass-first p e (advance (p .scaled) (p .walk .source) (p .rows)) ∙ ap (cons e) (sym (g .is)), (g .sound, (omega arith, rw i (tile7-in (p .scaled) (pos 0)))))
 
   give-rect : (e : Entry) (n : Walk) (r : Reached) → e ≡ rectOf (p .scaled) (p .walk) (p .lines) → n ≡ afterDraw (p .scaled) (p .walk) (drawOf (p .walk)) (p .lines) (p .next) → SoundRect p
-      → Reaches (planOut (passesOf (p .scaled) n)) (14 * up (n .«frame_remain»)) r → Gave (comingScaled (stage.Turn (turn.Pass due.Rect)) p) (leftAt (stage.Turn (turn.Pass due.Rect)) p) (next.Entry e r)
+      → Reaches (planOut (passesOf (p .scaled) n)) (14 * up (n .«frame_remain»)) r → Gave (comingScaled (stage.Pass due.Rect) p) (leftAt (stage.Pass due.Rect) p) (next.Entry e r)
   unfolding comingScaled drawn
   give-rect e n r i j h g =
       let l = g .left in
@@ -194,23 +194,23 @@ module _ (p : Place) where
       less l a b c = omega arith
 
   -- the walk before the next pass is sound, where lines are left
-  pub due-sound : (d : Due) → soundAt (stage.Turn (turn.Pass d)) p → SoundScaled (p .scaled) × (pos 1 ≤ℤ dueWalk d p .«frame_remain» → SoundWalk (dueWalk d p))
+  pub due-sound : (d : Due) → soundAt (stage.Pass d) p → SoundScaled (p .scaled) × (pos 1 ≤ℤ dueWalk d p .«frame_remain» → SoundWalk (dueWalk d p))
   due-sound due.Size h = (h .scaled, λ _. h .walk)
   due-sound due.Rect h = (h .pass .scaled, h .next)
 
   -- the size or the rectangle, and the pass after it
-  give-pass : (d : Due) (e : Entry) (n : Walk) (r : Reached) → e ≡ dueEntry d p → n ≡ dueWalk d p → soundAt (stage.Turn (turn.Pass d)) p → Reaches (planOut (passesOf (p .scaled) n)) (14 * up (n .«frame_remain»)) r
-      → Gave (comingScaled (stage.Turn (turn.Pass d)) p) (leftAt (stage.Turn (turn.Pass d)) p) (next.Entry e r)
+  give-pass : (d : Due) (e : Entry) (n : Walk) (r : Reached) → e ≡ dueEntry d p → n ≡ dueWalk d p → soundAt (stage.Pass d) p → Reaches (planOut (passesOf (p .scaled) n)) (14 * up (n .«frame_remain»)) r
+      → Gave (comingScaled (stage.Pass d) p) (leftAt (stage.Pass d) p) (next.Entry e r)
   give-pass due.Size e n r i j h g = rw i (give-size r (rw j at g))
   give-pass due.Rect e n r i j h g = give-rect e n r i j h g
 
   -- a turn's entry, and what comes after it
-  pub give-turn : (t : Turn) (e : Entry) (r : Reached) → soundAt (stage.Turn t) p → emit e ≡ turnOut t p → Reaches (afterTurn t p) (leftTurn t p) r → Gave (comingScaled (stage.Turn t) p) (leftAt (stage.Turn t) p) (next.Entry e r)
+  pub give-turn : (t : Turn) (e : Entry) (r : Reached) → soundAt (stageOf t) p → emit e ≡ turnOut t p → Reaches (afterTurn t p) (leftTurn t p) r → Gave (comingScaled (stageOf t) p) (leftAt (stageOf t) p) (next.Entry e r)
   give-turn (turn.Load k) e r h i g = give-load k e r i g
   give-turn turn.Last e r h i g = give-last e r (cc) g
   give-turn (turn.Pass d) e r h i g = give-pass d e (dueWalk d p) r (cc) refl h g
 
-  pub refuse-turn : (t : Turn) (e : Entry) → stop [] (e ∷ []) verdict.Address ≡ turnOut t p → Gave (comingScaled (stage.Turn t) p) (leftAt (stage.Turn t) p) (next.Refused e)
+  pub refuse-turn : (t : Turn) (e : Entry) → stop [] (e ∷ []) verdict.Address ≡ turnOut t p → Gave (comingScaled (stageOf t) p) (leftAt (stageOf t) p) (next.Refused e)
   refuse-turn (turn.Load k) e i = refuse-load k e i
   refuse-turn turn.Last e i = absurd (never i)
   refuse-turn (turn.Pass d) e i = absurd (never i)

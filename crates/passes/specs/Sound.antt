@@ -115,10 +115,10 @@ soundAt stage.First p = SoundStart p
 soundAt stage.Second p = SoundStart p
 soundAt (stage.Tile k) p = SoundPiece p
 soundAt (stage.Image k) p = SoundPiece p
-soundAt (stage.Turn (turn.Load k)) p = SoundPiece p
-soundAt (stage.Turn turn.Last) p = SoundPass p
-soundAt (stage.Turn (turn.Pass due.Size)) p = SoundStart p
-soundAt (stage.Turn (turn.Pass due.Rect)) p = SoundRect p
+soundAt (stage.Load k) p = SoundPiece p
+soundAt stage.Last p = SoundPass p
+soundAt (stage.Pass due.Size) p = SoundStart p
+soundAt (stage.Pass due.Rect) p = SoundRect p
 
 abbrev pub soundReached : Reached → Type 0
 soundReached (reached.At s p) = soundAt s p
@@ -143,10 +143,10 @@ leftAt stage.First p = 3 + 14 * up (p .walk .«frame_remain»)
 leftAt stage.Second p = 2 + 14 * up (p .walk .«frame_remain»)
 leftAt (stage.Tile k) p = 3 + afterPiece k + leftPass p
 leftAt (stage.Image k) p = 2 + afterPiece k + leftPass p
-leftAt (stage.Turn (turn.Load k)) p = 1 + afterPiece k + leftPass p
-leftAt (stage.Turn turn.Last) p = 2 + leftPass p
-leftAt (stage.Turn (turn.Pass due.Size)) p = 1 + 14 * up (p .walk .«frame_remain»)
-leftAt (stage.Turn (turn.Pass due.Rect)) p = 1 + leftPass p
+leftAt (stage.Load k) p = 1 + afterPiece k + leftPass p
+leftAt stage.Last p = 2 + leftPass p
+leftAt (stage.Pass due.Size) p = 1 + 14 * up (p .walk .«frame_remain»)
+leftAt (stage.Pass due.Rect) p = 1 + leftPass p
 
 -- the entries after a turn's, at the most
 abbrev pub leftTurn : Turn → Place → ℕ

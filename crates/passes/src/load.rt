@@ -28,7 +28,6 @@ use crate::types::Reached;
 use crate::types::Split;
 use crate::types::Stage;
 use crate::types::Sum;
-use crate::types::Turn;
 use object::Verdict;
 use plan::Scaled;
 use plan::Source;
@@ -111,7 +110,7 @@ fn moved(p: Place) -> Reached
         Moved::To(next) => {
             let mut q = p;
             q.next = next;
-            Reached::At(Stage::Turn(Turn::Pass(Due::Rect)), q)
+            Reached::At(Stage::Pass(Due::Rect), q)
         }
     }
 }
@@ -132,7 +131,7 @@ fn moved_on(p: Place) -> Reached
             let next = Source { pointer, remain };
             let mut q = p;
             q.next = next;
-            Reached::At(Stage::Turn(Turn::Pass(Due::Rect)), q)
+            Reached::At(Stage::Pass(Due::Rect), q)
         }
     }
 }
@@ -333,7 +332,7 @@ pub fn after_part(k: Piece, p: Place) -> Reached
         Choice::SplitB => split_row(p),
         Choice::SplitA => split_a(p),
         Choice::Rest => rest(p),
-        Choice::Last => Reached::At(Stage::Turn(Turn::Last), p),
+        Choice::Last => Reached::At(Stage::Last, p),
         Choice::On => moved_on(p),
         Choice::Move => moved(p),
     }

@@ -9,7 +9,7 @@ ghost use Rattle.object.specs.Range.{Within};
 ghost use Rattle.plan.specs.Out.{planOut};
 ghost use Rattle.plan.specs.Sound.{SoundScaled, SoundFirst};
 ghost use Rattle.plan.specs.Scaled.{tile7 as tile7Of, lrsOf, lrtOf, loadRows, rectOf, scaledPlan};
-ghost use Rattle.passes.specs.Coming.{tile0 as tile0Of, imageOf, dueEntry, dueWalk, turnOut, afterTurn, comingScaled};
+ghost use Rattle.passes.specs.Coming.{tile0 as tile0Of, imageOf, dueEntry, dueWalk, stageOf, turnOut, afterTurn, comingScaled};
 ghost use Rattle.passes.specs.Sound.{SoundPass, SoundPart, ClipIn, soundAt, leftAt, leftTurn, Reaches, Begins, Gave, loadedOut};
 use crate::load::after_part;
 use crate::rows::less;
@@ -188,7 +188,7 @@ fn rect(p: Place) -> Entry
 
 // What is given before the next pass.
 fn due_entry(due: Due, p: Place) -> Entry
-    requires { ⌜ soundAt (Stage.Turn (Turn.Pass due)) p ⌝ }
+    requires { ⌜ soundAt (Stage.Pass due) p ⌝ }
     ensures { λ r. ⌜ r ≡ dueEntry due p ⌝ }
 {
     match due {
@@ -205,7 +205,7 @@ fn due_entry(due: Due, p: Place) -> Entry
 
 // The walk before the next pass: after a rectangle, the one that its pass leaves.
 fn due_walk(due: Due, p: Place) -> Walk
-    requires { ⌜ soundAt (Stage.Turn (Turn.Pass due)) p ⌝ }
+    requires { ⌜ soundAt (Stage.Pass due) p ⌝ }
     ensures { λ r. ⌜ r ≡ dueWalk due p ⌝ }
 {
     match due {
@@ -216,7 +216,7 @@ fn due_walk(due: Due, p: Place) -> Walk
 
 // The entry of a turn; only a load may be refused.
 fn turn_entry(turn: Turn, p: Place) -> Loaded
-    requires { ⌜ soundAt (Stage.Turn turn) p ⌝ }
+    requires { ⌜ soundAt (stageOf turn) p ⌝ }
     ensures { λ r. ⌜ loadedOut r ≡ turnOut turn p ⌝ }
 {
     match turn {
@@ -228,7 +228,7 @@ fn turn_entry(turn: Turn, p: Place) -> Loaded
 
 // The pass after a turn's entry: the one that is under way, or the next.
 fn begun(turn: Turn, p: Place) -> Begun
-    requires { ⌜ soundAt (Stage.Turn turn) p ⌝ }
+    requires { ⌜ soundAt (stageOf turn) p ⌝ }
     ensures { λ r. ⌜ Begins (afterTurn turn p) (leftTurn turn p) r ⌝ }
 {
     match turn {
@@ -240,7 +240,7 @@ fn begun(turn: Turn, p: Place) -> Begun
 
 // What comes after a turn's entry: the one call of `after_part`, so that the compiler inlines it.
 fn turned(turn: Turn, p: Place) -> Reached
-    requires { ⌜ soundAt (Stage.Turn turn) p ⌝ }
+    requires { ⌜ soundAt (stageOf turn) p ⌝ }
     ensures { λ r. ⌜ Reaches (afterTurn turn p) (leftTurn turn p) r ⌝ }
 {
     match begun(turn, p) {
@@ -251,8 +251,8 @@ fn turned(turn: Turn, p: Place) -> Reached
 
 // The entry of a turn, and what comes after it unless its load is refused.
 fn turn_step(turn: Turn, p: Place) -> ScaledNext
-    requires { ⌜ soundAt (Stage.Turn turn) p ⌝ }
-    ensures { λ r. ⌜ Gave (comingScaled (Stage.Turn turn) p) (leftAt (Stage.Turn turn) p) r ⌝ }
+    requires { ⌜ soundAt (stageOf turn) p ⌝ }
+    ensures { λ r. ⌜ Gave (comingScaled (stageOf turn) p) (leftAt (stageOf turn) p) r ⌝ }
 {
     match turn_entry(turn, p) {
         Loaded::Entry(entry) => ScaledNext::Entry(entry, turned(turn, p)),
@@ -260,33 +260,35 @@ fn turn_step(turn: Turn, p: Place) -> ScaledNext
     }
 }
 
-// What comes next of a scaled plan.
+// What comes next of a scaled plan. The stages of a turn meet in one call of `turn_step`; a stage that holds a turn would be of three bytes, which the compiler writes as two numbers and reads
+// as one, and waits.
 pub fn scaled_next(stage: Stage, p: Place) -> ScaledNext
     requires { ⌜ soundAt stage p ⌝ }
     ensures { λ r. ⌜ Gave (comingScaled stage p) (leftAt stage p) r ⌝ }
 {
-    match stage {
-        Stage::First => ScaledNext::Entry(tile7(p.scaled, 0), Reached::At(Stage::Second, p)),
+    let turn = match stage {
+        Stage::First => {
+            return ScaledNext::Entry(tile7(p.scaled, 0), Reached::At(Stage::Second, p));
+        }
         Stage::Second => {
-            let pass = Turn::Pass(Due::Size);
-            ScaledNext::Entry(tile0(p.scaled), Reached::At(Stage::Turn(pass), p))
+            let next = Stage::Pass(Due::Size);
+            return ScaledNext::Entry(tile0(p.scaled), Reached::At(next, p));
         }
         Stage::Tile(k) => {
             let q = p.part;
-            ScaledNext::Entry(
-                tile7(p.scaled, q.destination),
-                Reached::At(Stage::Image(k), p),
-            )
+            let entry = tile7(p.scaled, q.destination);
+            return ScaledNext::Entry(entry, Reached::At(Stage::Image(k), p));
         }
         Stage::Image(k) => {
             let q = p.part;
-            ScaledNext::Entry(
-                image(p.scaled, q.pointer),
-                Reached::At(Stage::Turn(Turn::Load(k)), p),
-            )
+            let entry = image(p.scaled, q.pointer);
+            return ScaledNext::Entry(entry, Reached::At(Stage::Load(k), p));
         }
-        Stage::Turn(turn) => turn_step(turn, p),
-    }
+        Stage::Load(k) => Turn::Load(k),
+        Stage::Last => Turn::Last,
+        Stage::Pass(due) => Turn::Pass(due),
+    };
+    turn_step(turn, p)
 }
 
 // Where a scaled plan starts: its first address sum may be refused.

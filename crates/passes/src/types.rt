@@ -73,7 +73,9 @@ pub enum Stage {
     Second,
     Tile(Piece),
     Image(Piece),
-    Turn(Turn),
+    Load(Piece),
+    Last,
+    Pass(Due),
 }
 
 // A pass under way: the walk before it, its rows and lines, the part that is given, the pointer of the last row's first part, and where the next pass starts.

@@ -1,7 +1,12 @@
 -- `passes::step::scaled_next` meets its contract: each stage has its law. Assumes nothing.
-use borrow.Author.Needs.{needs}
+use mathlib.Core.Path.{_≡_, sym, ap, subst, _∙_}
+use mathlib.Core.Logic.{⊎-elim}
+use Rattle.passes.specs.declared.types.Stage.{Stage}
+use Rattle.passes.specs.Coming.{stageOf, comingScaled}
+use Rattle.passes.specs.Sound.{soundAt, leftAt, Gave}
 use Rattle.passes.specs.Given.{give-first, give-second, give-tile, give-image}
 use Rattle.signed.specs.Word.{rk}
+use borrow.Author.Needs.{needs}
 use Rattle.passes.proofs.step.scaled_next.Statement.{statement}
 use Rattle.passes.proofs.step.scaled_next.Tie as tie
 
@@ -11,11 +16,21 @@ enum-told c = search needs
 tile7-requires : tie.Need-tile7-requires
 tile7-requires c κs = search needs
 
+returns : tie.Need-returns
+returns c =
+    let e = c .before .enum-told .given .1 in
+    rw e (give-first (c .before .before .before .args .p) _ (c .tile7 .ensures) (rw e at (c .before .before .before .pre)))
+
 enum-told-2 : tie.Need-enum-told-2
 enum-told-2 c = search needs
 
 tile0-requires : tie.Need-tile0-requires
 tile0-requires c κs = search needs
+
+returns-2 : tie.Need-returns-2
+returns-2 c =
+    let e = c .before .enum-told2 .given .1 in
+    rw e (give-second (c .before .before .before .args .p) _ (c .tile0 .ensures) (rw e at (c .before .before .before .pre)))
 
 enum-known-stage : tie.Need-enum-known-stage
 enum-known-stage c = search needs
@@ -23,41 +38,47 @@ enum-known-stage c = search needs
 tile7-requires-2 : tie.Need-tile7-requires-2
 tile7-requires-2 c κs = search needs
 
-enum-known-stage-2 : tie.Need-enum-known-stage-2
-enum-known-stage-2 c = search needs
-
-image-requires : tie.Need-image-requires
-image-requires c κs = (rw (c .before .before .stage2 .given .1) at (c .before .before .before .before .pre)) .pass .scaled
-
-enum-known-stage-3 : tie.Need-enum-known-stage-3
-enum-known-stage-3 c = search needs
-
-turn-step-requires : tie.Need-turn-step-requires
-turn-step-requires c κs = rw (c .before .stage3 .given .1) at (c .before .before .before .pre)
-
-returns : tie.Need-returns
-returns c =
-    let e = c .before .enum-told .given .1 in
-    rw e (give-first (c .before .before .before .args .p) _ (c .tile7 .ensures) (rw e at (c .before .before .before .pre)))
-
-returns-2 : tie.Need-returns-2
-returns-2 c =
-    let e = c .before .enum-told2 .given .1 in
-    rw e (give-second (c .before .before .before .args .p) _ (c .tile0 .ensures) (rw e at (c .before .before .before .pre)))
-
 returns-3 : tie.Need-returns-3
 returns-3 c =
     let e = c .before .before .before .before .stage .given .1 in
     let p = c .before .before .before .before .before .before .args .p in
     rw e (give-tile p _ _ (rw (rk (p .part .destination) (c .before .struct-told .given .1 .1 .0 .1)) at (c .tile72 .ensures)) (rw e at (c .before .before .before .before .before .before .pre)))
 
+enum-known-stage-2 : tie.Need-enum-known-stage-2
+enum-known-stage-2 c = search needs
+
+image-requires : tie.Need-image-requires
+image-requires c κs = (rw (c .before .before .stage2 .given .1) at (c .before .before .before .before .pre)) .pass .scaled
+
 returns-4 : tie.Need-returns-4
 returns-4 c =
     let e = c .before .before .before .stage2 .given .1 in
     rw e (give-image (c .before .before .before .before .before .args .p) _ _ (c .image .ensures) (rw e at (c .before .before .before .before .before .pre)))
 
+enum-known-stage-3 : tie.Need-enum-known-stage-3
+enum-known-stage-3 c = search needs
+
+enum-told-3 : tie.Need-enum-told-3
+enum-told-3 c = search needs
+
+enum-known-stage-4 : tie.Need-enum-known-stage-4
+enum-known-stage-4 c = search needs
+
+-- the stage of the turn that the match leaves
+turning : (c : tie.At-match-came) → c .before .args .stage ≡ stageOf (c .match .turn)
+turning c =
+    ⊎-elim
+    (λ w. w .1 .given .1 ∙ ap stageOf (sym (w .3)))
+    (λ v. ⊎-elim (λ w. w .1 .given .1 ∙ ap stageOf (sym (w .2))) (λ w. w .1 .given .1 ∙ ap stageOf (sym (w .3))) v)
+    (c .match .came)
+
+turn-step-requires : tie.Need-turn-step-requires
+turn-step-requires c κs = subst (λ (s : Stage). soundAt s (c .before .args .p)) (turning c) (c .before .pre)
+
 returns-5 : tie.Need-returns-5
-returns-5 c = rw (c .before .before .stage3 .given .1) (c .turn-step .ensures)
+returns-5 c =
+    let p = c .before .before .args .p in
+    subst (λ (s : Stage). Gave (comingScaled s p) (leftAt s p) (c .turn-step .result)) (sym (turning (c .before))) (c .turn-step .ensures)
 
 pub scaled-next-spec : {M : Type 1} → statement M
 scaled-next-spec =
@@ -65,16 +86,18 @@ scaled-next-spec =
     (tie.spec
     enum-told
     tile7-requires
+    returns
     enum-told-2
     tile0-requires
+    returns-2
     enum-known-stage
     tile7-requires-2
+    returns-3
     enum-known-stage-2
     image-requires
-    enum-known-stage-3
-    turn-step-requires
-    returns
-    returns-2
-    returns-3
     returns-4
+    enum-known-stage-3
+    enum-told-3
+    enum-known-stage-4
+    turn-step-requires
     returns-5)
