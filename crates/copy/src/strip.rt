@@ -18,10 +18,10 @@ fn column_at(c: Copy, x: u64) -> u64
     if c.flip {
         let end = (c.source_x + c.frame_cells) as i64;
         let back = (1 + c.x_skip + x) as i64;
-        signed::rem_euclid(end - back, c.image_width)
+        signed::wrapped(end - back, c.image_width)
     } else {
         let sx = (c.source_x + c.x_skip + x) as i64;
-        signed::rem_euclid(sx, c.image_width)
+        signed::wrapped(sx, c.image_width)
     }
 }
 

@@ -182,7 +182,7 @@ fn rect(p: Place) -> Entry
         ult: short(w.t as i64),
         dsdx: short(z.scale_w as i64),
         dtdy: short(z.scale_h as i64),
-        row: signed::rem_euclid(rows, z.source_rows),
+        row: signed::wrapped(rows, z.source_rows),
     }
 }
 

@@ -3,7 +3,7 @@
 use mathlib.Core.Path.{_≡_, refl, sym, ap, _∙_}
 use Prim.Native.Nat.{ℕ, suc, _+_, _*_, _-_, _/_, _%_, _<_, _≤_}
 use native.Mathlib.Omega.{arith}
-use native.Mathlib.Nat.{div-add-mod', mod-lt, div-le-self}
+use native.Mathlib.Nat.{div-add-mod', mod-lt, mod-eq-of-lt, div-le-self}
 use lib.Arith.{digits-div, digits-mod}
 use lib.IntN.{ℤ, pos, negsuc, negℤ, natAbs, _+ℤ_, _-ℤ_, _*ℤ_}
 use lib.Signed.{_<ℤ_, _≤ℤ_, quotZ, remZ}
@@ -22,6 +22,14 @@ modulo (negsuc n) m = m - suc (n % m)
 pub modulo-lt : (z : ℤ) {m : ℕ} → 0 < m → modulo z m < m
 modulo-lt (pos n) h = mod-lt n h
 modulo-lt (negsuc n) {m} h = omega arith
+
+-- of a number that is not negative it is the remainder of naturals, and the number itself where that is below m
+pub modulo-above : (z : ℤ) (m : ℕ) → dn z ≡ 0 → natAbs z % m ≡ modulo z m
+modulo-above (pos n) m h = refl
+modulo-above (negsuc n) m h = absurd (omega arith)
+
+pub modulo-own : (z : ℤ) (m : ℕ) → dn z ≡ 0 → natAbs z < m → natAbs z ≡ modulo z m
+modulo-own z m h l = sym (mod-eq-of-lt l) ∙ modulo-above z m h
 
 -- the division with its remainder, over ℕ and over ℤ
 pub floor-is : (z : ℤ) (m : ℕ) → 0 < m → up (floorDiv z m) * m + modulo z m + dn z ≡ up z + dn (floorDiv z m) * m

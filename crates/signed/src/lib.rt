@@ -55,6 +55,18 @@ pub fn rem_euclid(a: i64, b: u64) -> u64
     if r < 0 { (r + d) as u64 } else { r as u64 }
 }
 
+// The same for numbers that are mostly in range already: a division takes longer than the rest of a step.
+pub fn wrapped(a: i64, b: u64) -> u64
+    requires { ⌜ (1 ≤ b) × (b < 2 ^ 63) ⌝ }
+    ensures { λ r. ⌜ r ≡ modulo a b ⌝ }
+{
+    if a < 0 {
+        return rem_euclid(a, b);
+    }
+    let n = a as u64;
+    if n < b { n } else { n % b }
+}
+
 // Masks that keep low bits are remainders.
 
 pub fn low5(x: u64) -> u64

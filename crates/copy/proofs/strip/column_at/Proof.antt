@@ -22,13 +22,13 @@ add-back-2 c = search needs
 cast-back : tie.Need-cast-back
 cast-back c = search needs
 
-sub-rem-euclid : tie.Need-sub-rem-euclid
-sub-rem-euclid c =
+sub-wrapped : tie.Need-sub-wrapped
+sub-wrapped c =
     let a = c .before .before .before in
     rw (rdn (a .args .c .«source_x» + a .args .c .«frame_cells») (cast-end (c .before) .sfits), rdn (1 + a .args .c .«x_skip» + a .args .x) (cast-back c .sfits)) (simp zdiff (omega zarith))
 
-rem-euclid-requires : tie.Need-rem-euclid-requires
-rem-euclid-requires c κs = search needs
+wrapped-requires : tie.Need-wrapped-requires
+wrapped-requires c κs = search needs
 
 add-sx : tie.Need-add-sx
 add-sx c = search needs
@@ -39,21 +39,21 @@ add-sx-2 c = search needs
 cast-sx : tie.Need-cast-sx
 cast-sx c = search needs
 
-rem-euclid-requires-2 : tie.Need-rem-euclid-requires-2
-rem-euclid-requires-2 c κs = search needs
+wrapped-requires-2 : tie.Need-wrapped-requires-2
+wrapped-requires-2 c κs = search needs
 
 returns : tie.Need-returns
 returns c =
     let d = c .before in
     let a = d .before .before .before in
-    let e = rw (rd (sub-rem-euclid d), rdn (a .args .c .«source_x» + a .args .c .«frame_cells») (cast-end (d .before) .sfits), rdn (1 + a .args .c .«x_skip» + a .args .x) (cast-back d .sfits)) at (c .rem-euclid .ensures) in
+    let e = rw (rd (sub-wrapped d), rdn (a .args .c .«source_x» + a .args .c .«frame_cells») (cast-end (d .before) .sfits), rdn (1 + a .args .c .«x_skip» + a .args .x) (cast-back d .sfits)) at (c .wrapped .ensures) in
     column-is (a .args .c) (a .args .x) (a .pre .0) (rw (d .before .before .if1 .taken) e)
 
 returns-2 : tie.Need-returns-2
 returns-2 c =
     let d = c .before in
     let a = d .before .before in
-    let e = rw (rdn (a .args .c .«source_x» + a .args .c .«x_skip» + a .args .x) (cast-sx d .sfits)) at (c .rem-euclid2 .ensures) in
+    let e = rw (rdn (a .args .c .«source_x» + a .args .c .«x_skip» + a .args .x) (cast-sx d .sfits)) at (c .wrapped2 .ensures) in
     column-is (a .args .c) (a .args .x) (a .pre .0) (rw (d .before .if1 .left) e)
 
 pub column-at-spec : {M : Type 1} → statement M
@@ -65,11 +65,11 @@ column-at-spec =
     add-back
     add-back-2
     cast-back
-    sub-rem-euclid
-    rem-euclid-requires
+    sub-wrapped
+    wrapped-requires
     add-sx
     add-sx-2
     cast-sx
-    rem-euclid-requires-2
+    wrapped-requires-2
     returns
     returns-2)

@@ -60,8 +60,8 @@ cast-short-3 c = let h = c .before .before .before .before .before .before .befo
 short-requires-4 : tie.Need-short-requires-4
 short-requires-4 c κs = search needs
 
-rem-euclid-requires : tie.Need-rem-euclid-requires
-rem-euclid-requires c κs = let h = c .before .before .before .before .before .before .before .before .before .before .before .before .before .before .before .pre .scaled in (h .source-rows, omega (arith, h .source-rows′))
+wrapped-requires : tie.Need-wrapped-requires
+wrapped-requires c κs = let h = c .before .before .before .before .before .before .before .before .before .before .before .before .before .before .before .pre .scaled in (h .source-rows, omega (arith, h .source-rows′))
 
 returns : tie.Need-returns
 returns c =
@@ -71,7 +71,7 @@ returns c =
     let ut = rk (c .before .before .before .before .before .short2 .result) (c .before .before .before .before .before .short2 .ok) ∙ (rw (rdn (s .args .p .walk .t) (cast-short (c .before .before .before .before .before .before) .sfits)) at (c .before .before .before .before .before .short2 .ensures)) in
     let dx = rk (c .before .before .before .short3 .result) (c .before .before .before .short3 .ok) ∙ (rw (rdn (z .«scale_w») (cast-short-2 (c .before .before .before .before) .sfits)) at (c .before .before .before .short3 .ensures)) in
     let dy = rk (c .before .short4 .result) (c .before .short4 .ok) ∙ (rw (rdn (z .«scale_h») (cast-short-3 (c .before .before) .sfits)) at (c .before .short4 .ensures)) in
-    let r = rw (rd (sub-rows (c .before .before .before .before .before .before .before .before .before .before)), rdn (z .«source_rows») (cast-rows (c .before .before .before .before .before .before .before .before .before .before .before .before) .sfits), remain-is s) at (c .rem-euclid .ensures) in
+    let r = rw (rd (sub-rows (c .before .before .before .before .before .before .before .before .before .before)), rdn (z .«source_rows») (cast-rows (c .before .before .before .before .before .before .before .before .before .before .before .before) .sfits), remain-is s) at (c .wrapped .ensures) in
     rw (us, ut, dx, dy, r)
 
 pub rect-spec : {M : Type 1} → statement M
@@ -90,5 +90,5 @@ rect-spec =
     short-requires-3
     cast-short-3
     short-requires-4
-    rem-euclid-requires
+    wrapped-requires
     returns)
