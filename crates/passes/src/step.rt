@@ -260,8 +260,8 @@ fn turn_step(turn: Turn, p: Place) -> ScaledNext
     }
 }
 
-// What comes next of a scaled plan. The stages of a turn meet in one call of `turn_step`; a stage that holds a turn would be of three bytes, which the compiler writes as two numbers and reads
-// as one, and waits.
+// What comes next of a scaled plan. The stages of a turn meet in one call of `turn_step`, so that the compiler inlines it; a stage that held the turn would have three bytes and not stay in a
+// register.
 pub fn scaled_next(stage: Stage, p: Place) -> ScaledNext
     requires { ⌜ soundAt stage p ⌝ }
     ensures { λ r. ⌜ Gave (comingScaled stage p) (leftAt stage p) r ⌝ }
