@@ -9,7 +9,7 @@
 ghost use mathlib.Core.Path.{_≡_};
 ghost use Rattle.export.specs.Host.{left, hostRun, counted, hostCount};
 
-// A whole run: the entries go to `plan`, eleven words each, and words beyond the last entry stay as they are.
+// A whole run: the entries go to `plan`, eleven words each, and what they set of the tiles goes to `bank`. All other words stay as they are.
 #[no_mangle]
 pub extern "C" fn bg_run(
     object: &[u8],
@@ -30,19 +30,15 @@ pub extern "C" fn bg_run(
         return 1;
     }
     let q = request::from_words(request);
-    let tiles = words::bank_from(bank);
-    let ran = planner::run(
+    let ended = planner::run(
         object,
         q.opcode,
         q.scissor,
         q.mode,
         q.address,
-        tiles,
+        &mut *bank,
         &mut *plan,
     );
-    let after = ran.bank;
-    words::bank_into(&mut *bank, after);
-    let ended = ran.end;
     words::end_into(&mut *end, ended);
     0
 }

@@ -1,7 +1,7 @@
 -- What a scaled plan has still to come, at each place of a pass: the rest of `load_1cyc`, the rectangle, and the passes after it.
 -- Assumes nothing.
 use mathlib.Core.Path.{_≡_}
-use mathlib.Core.Bool.{true, false}
+use mathlib.Core.Bool.{true}
 use mathlib.Core.List.{List, [], _∷_}
 use Prim.Native.Nat.{ℕ, _+_, _*_, _%_, _^_}
 use lib.IntN.{ℤ, pos, negℤ, _+ℤ_, _-ℤ_, _*ℤ_}
@@ -22,6 +22,7 @@ use Rattle.passes.specs.declared.types.Sum.{Sum}
 use Rattle.passes.specs.declared.types.Sum.the-variants as sum
 use Rattle.passes.specs.declared.types.Moved.{Moved}
 use Rattle.passes.specs.declared.types.Moved.the-variants as moved
+use Rattle.passes.specs.declared.types.Part.{Part}
 use Rattle.passes.specs.declared.types.Piece.{Piece}
 use Rattle.passes.specs.declared.types.Piece.the-variants as piece
 use Rattle.passes.specs.declared.types.Due.{Due}
@@ -72,7 +73,6 @@ wholeOut z src rows = sourceAddress (src .pointer) (pos (z .stride) *ℤ rows) >
 -- what of `load_1cyc` comes after a part; `spare` is the pointer of the last row's first part
 unfoldable pub pieceOut : Piece → Scaled → Source → (rows : ℤ) → (spare : ℕ) → Out Source
 pieceOut piece.Start z src rows spare = load1cyc z src rows
-pieceOut piece.Whole z src rows spare = wholeOut z src rows
 pieceOut piece.Top z src rows spare = splitRow z (src .pointer) (loadableOf z src) >> restOut z src rows
 pieceOut piece.SplitB z src rows spare = load1cycTile z spare (splitRows z src) (splitFrom z src) (splitWidth z) true >> restOut z src rows
 pieceOut piece.SplitA z src rows spare = restOut z src rows
@@ -94,9 +94,19 @@ tile0 z = Tile 0 (z .fmt) (z .siz) (z .line % 2 ^ 16) 0 (z .palette) 1 1 15 15
 abbrev pub imageOf : Scaled → ℕ → Entry
 imageOf z pointer = Image 0 (sizeOf z) (fieldOf z) pointer
 
--- the part that is given
-abbrev pub partOut : Place → Out (Unit {0})
-partOut p = loadPart (p .scaled) (p .part .pointer) (p .part .rows) (p .part .width)
+-- a part's texture image and load, and the load alone
+abbrev pub partOut : Scaled → Part → Out (Unit {0})
+partOut z q = loadPart z (q .pointer) (q .rows) (q .width)
+
+abbrev pub rowsOut : Scaled → Part → Out (Unit {0})
+rowsOut z q = loadRows z (q .pointer) (q .rows) (q .width)
+
+-- R 176: the whole load, over the tile that stands, and what of `load_1cyc` comes after it
+abbrev pub wholePart : Place → Part
+wholePart p = record { pointer = p .walk .source .pointer; rows = p .rows +ℤ pos (p .scaled .bilerp); destination = pos 0; width = pos (p .scaled .line) }
+
+abbrev pub afterWhole : Place → Out Source
+afterWhole p = wholeOut (p .scaled) (p .walk .source) (p .rows)
 
 abbrev pub afterPart : Piece → Place → Out Source
 afterPart k p = pieceOut k (p .scaled) (p .walk .source) (p .rows) (p .spare)
@@ -108,10 +118,6 @@ passFrom p o = passOut (p .scaled) (p .walk) (p .lines) o
 -- a part with its tile, and what comes after it
 abbrev pub partThen : Piece → Place → (pointer : ℕ) → (rows destination width : ℤ) → Plan
 partThen k p pointer rows destination width = passFrom p (load1cycTile (p .scaled) pointer rows destination width true >> afterPart k p)
-
--- R 176: the whole load, over the tile that stands
-abbrev pub wholeThen : Place → (rows width : ℤ) → Plan
-wholeThen p rows width = passFrom p (load1cycTile (p .scaled) (p .walk .source .pointer) rows (pos 0) width false >> afterPart piece.Whole p)
 
 -- R 184–195: the rows from the top, and what comes after them
 abbrev pub topThen : Place → (load-rows : ℤ) → Plan
@@ -133,32 +139,38 @@ abbrev pub dueWalk : Due → Place → Walk
 dueWalk due.Size p = p .walk
 dueWalk due.Rect p = afterDraw (p .scaled) (p .walk) (drawOf (p .walk)) (p .lines) (p .next)
 
--- the stage that gives a turn's entry
+-- the stage that gives what is due, and the stage that gives a turn's entry
+abbrev pub dueStage : Due → Stage
+dueStage due.Size = stage.Size
+dueStage due.Rect = stage.Rect
+
 abbrev pub stageOf : Turn → Stage
-stageOf (turn.Load k) = stage.Load k
+stageOf turn.Load = stage.Load
 stageOf turn.Last = stage.Last
-stageOf (turn.Pass d) = stage.Pass d
+stageOf (turn.Pass d) = dueStage d
 
 -- the entry of a turn, or the size that a refused load has set; and what comes after it
 abbrev pub turnOut : Turn → Place → Out (Unit {0})
-turnOut (turn.Load k) p = loadRows (p .scaled) (p .part .pointer) (p .part .rows) (p .part .width)
+turnOut turn.Load p = rowsOut (p .scaled) (p .part)
 turnOut turn.Last p = emit (tile7 (p .scaled) (pos 0))
 turnOut (turn.Pass d) p = emit (dueEntry d p)
 
 abbrev pub afterTurn : Turn → Place → Plan
-afterTurn (turn.Load k) p = passFrom p (afterPart k p)
+afterTurn turn.Load p = passFrom p (afterPart (p .piece) p)
 afterTurn turn.Last p = passFrom p (afterPart piece.Rest p)
 afterTurn (turn.Pass d) p = planOut (passesOf (p .scaled) (dueWalk d p))
 
 unfoldable pub comingScaled : Stage → Place → Plan
 comingScaled stage.First p = planOut (emit (tile7 (p .scaled) (pos 0)) >> (emit (tile0 (p .scaled)) >> (emit (Size 0 0 0 0 0) >> passesOf (p .scaled) (p .walk))))
 comingScaled stage.Second p = planOut (emit (tile0 (p .scaled)) >> (emit (Size 0 0 0 0 0) >> passesOf (p .scaled) (p .walk)))
-comingScaled (stage.Tile k) p = passFrom p (emit (tile7 (p .scaled) (p .part .destination)) >> (partOut p >> afterPart k p))
-comingScaled (stage.Image k) p = passFrom p (partOut p >> afterPart k p)
-comingScaled (stage.Load k) p = passFrom p (loadRows (p .scaled) (p .part .pointer) (p .part .rows) (p .part .width) >> afterPart k p)
+comingScaled stage.Whole p = passFrom p (partOut (p .scaled) (wholePart p) >> afterWhole p)
+comingScaled stage.WholeLoad p = passFrom p (rowsOut (p .scaled) (wholePart p) >> afterWhole p)
+comingScaled stage.Tile p = passFrom p (emit (tile7 (p .scaled) (p .part .destination)) >> (partOut (p .scaled) (p .part) >> afterPart (p .piece) p))
+comingScaled stage.Image p = passFrom p (partOut (p .scaled) (p .part) >> afterPart (p .piece) p)
+comingScaled stage.Load p = passFrom p (rowsOut (p .scaled) (p .part) >> afterPart (p .piece) p)
 comingScaled stage.Last p = passFrom p (emit (tile7 (p .scaled) (pos 0)) >> advance (p .scaled) (p .walk .source) (p .rows))
-comingScaled (stage.Pass due.Size) p = planOut (emit (Size 0 0 0 0 0) >> passesOf (p .scaled) (p .walk))
-comingScaled (stage.Pass due.Rect) p = planOut (drawn (p .scaled) (p .walk) (p .lines) (p .next))
+comingScaled stage.Size p = planOut (emit (Size 0 0 0 0 0) >> passesOf (p .scaled) (p .walk))
+comingScaled stage.Rect p = planOut (drawn (p .scaled) (p .walk) (p .lines) (p .next))
 
 abbrev pub comingReached : Reached → Plan
 comingReached (reached.At s p) = comingScaled s p

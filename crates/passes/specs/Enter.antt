@@ -22,28 +22,26 @@ use Rattle.plan.specs.Scaled.{tile7, loadPart, load1cycTile, back, fromTop, spl
 use Rattle.passes.specs.declared.types.Part.{Part}
 use Rattle.passes.specs.declared.types.Piece.{Piece}
 use Rattle.passes.specs.declared.types.Piece.the-variants as piece
-use Rattle.passes.specs.declared.types.Due.the-variants as due
 use Rattle.passes.specs.declared.types.Choice.{Choice}
 use Rattle.passes.specs.declared.types.Choice.the-variants as choice
-use Rattle.passes.specs.declared.types.Turn.the-variants as turn
 use Rattle.passes.specs.declared.types.Stage.the-variants as stage
 use Rattle.passes.specs.declared.types.Place.{Place}
 use Rattle.passes.specs.declared.types.Reached.{Reached}
 use Rattle.passes.specs.declared.types.Reached.the-variants as reached
-use Rattle.passes.specs.Coming.{loadableOf, splitRows, splitFrom, splitWidth, partsFrom, topThen, restOut, wholeOut, pieceOut, drawn, passFrom, partThen, wholeThen, afterPart, comingScaled}
+use Rattle.passes.specs.Coming.{loadableOf, splitRows, splitFrom, splitWidth, partsFrom, topThen, restOut, wholeOut, pieceOut, drawn, passFrom, partThen, wholePart, afterPart, afterWhole, comingScaled}
 use Rattle.passes.specs.Loads.{then-assoc, partBad, part-refused, part-given, part-whole, split-on, split-off, rest-on, rest-off, top-on, top-off, load-whole, load-wraps}
 use Rattle.passes.specs.Kept.{Left, advance-left, stay-left, draw-kept}
 use Rattle.passes.specs.Sound.{SoundPass, SoundPart, SoundPiece, SoundRect, Reaches, before, Meets, Chose, leftPass, afterPiece}
 
 -- the place with another part, and with another next source
-abbrev pub withPart : Place → Part → Place
-withPart p q = record { scaled = p .scaled; walk = p .walk; rows = p .rows; lines = p .lines; part = q; spare = p .spare; next = p .next }
+abbrev pub withPart : Place → Piece → Part → Place
+withPart p k q = record { scaled = p .scaled; walk = p .walk; rows = p .rows; lines = p .lines; part = q; spare = p .spare; next = p .next; piece = k }
 
 abbrev pub withNext : Place → Source → Place
-withNext p s = record { scaled = p .scaled; walk = p .walk; rows = p .rows; lines = p .lines; part = p .part; spare = p .spare; next = s }
+withNext p s = record { scaled = p .scaled; walk = p .walk; rows = p .rows; lines = p .lines; part = p .part; spare = p .spare; next = s; piece = p .piece }
 
 abbrev pub withSpare : Place → ℕ → Place
-withSpare p n = record { scaled = p .scaled; walk = p .walk; rows = p .rows; lines = p .lines; part = p .part; spare = n; next = p .next }
+withSpare p n = record { scaled = p .scaled; walk = p .walk; rows = p .rows; lines = p .lines; part = p .part; spare = n; next = p .next; piece = p .piece }
 
 pub spare-sound : (p : Place) (n : ℕ) → SoundPass p → SoundPass (withSpare p n)
 spare-sound p n h = record { scaled = h .scaled; walk = h .walk; draws = h .draws; lines = h .lines; left = h .left; rows = h .rows; rows′ = h .rows′; whole = h .whole }
@@ -55,32 +53,35 @@ partOf pointer rows destination width = record { pointer = pointer; rows = rows;
 ended-is : {v : Verdict} (p : Place) (o : Out Source) (n : ℕ) → o ≡ refuse v → Reaches (passFrom p o) n (reached.Ended v)
 ended-is p o n e = record { is = rw e; sound = tt; left = omega arith }
 
-same-pass : (p : Place) (q : Part) → SoundPass p → SoundPass (withPart p q)
-same-pass p q h = record { scaled = h .scaled; walk = h .walk; draws = h .draws; lines = h .lines; left = h .left; rows = h .rows; rows′ = h .rows′; whole = h .whole }
+same-pass : (p : Place) (k : Piece) (q : Part) → SoundPass p → SoundPass (withPart p k q)
+same-pass p k q h = record { scaled = h .scaled; walk = h .walk; draws = h .draws; lines = h .lines; left = h .left; rows = h .rows; rows′ = h .rows′; whole = h .whole }
 
 module _ (k : Piece) (p : Place) (pointer : ℕ) (rows destination width : ℤ) (h : SoundPass p) (r : Within 47 rows) (w : Within 47 width) where
   pub enter-refused : partBad rows destination width ≡ true → Reaches (partThen k p pointer rows destination width) (3 + afterPiece k + leftPass p) (reached.Ended verdict.Piece)
   enter-refused t = ended-is p _ _ (ap (λ (o : Out (Unit {0})). o >> afterPart k p) (part-refused (p .scaled) pointer rows destination width true t))
 
-  pub enter-given : partBad rows destination width ≡ false → Reaches (partThen k p pointer rows destination width) (3 + afterPiece k + leftPass p) (reached.At (stage.Tile k) (withPart p (partOf pointer rows destination width)))
+  pub enter-given : partBad rows destination width ≡ false → Reaches (partThen k p pointer rows destination width) (3 + afterPiece k + leftPass p) (reached.At stage.Tile (withPart p k (partOf pointer rows destination width)))
   unfolding comingScaled
   enter-given t =
       record {
         is = sym (ap (passFrom p) (ap (λ (o : Out (Unit {0})). o >> afterPart k p) (part-given (p .scaled) pointer rows destination width t) ∙ then-assoc (emit (tile7 (p .scaled) destination)) (loadPart (p .scaled) pointer rows width) (afterPart k p)));
-        sound = record { pass = same-pass p (partOf pointer rows destination width) h; part = record { rows = r; width = w } };
+        sound = record { pass = same-pass p k (partOf pointer rows destination width) h; part = record { rows = r; width = w } };
         left = omega arith;
       }
 
-module _ (p : Place) (rows width : ℤ) (h : SoundPass p) (r : Within 47 rows) (w : Within 47 width) where
-  pub whole-refused : partBad rows (pos 0) width ≡ true → Reaches (wholeThen p rows width) (3 + leftPass p) (reached.Ended verdict.Piece)
-  whole-refused t = ended-is p _ _ (ap (λ (o : Out (Unit {0})). o >> afterPart piece.Whole p) (part-refused (p .scaled) (p .walk .source .pointer) rows (pos 0) width false t))
+-- R 175–176: no row wraps
+module _ (p : Place) (h : SoundPass p) (m : Meets choice.Whole p) where
+  pub whole-refused : partBad (wholePart p .rows) (pos 0) (wholePart p .width) ≡ true → Reaches (passFrom p (afterPart piece.Start p)) (13 + leftPass p) (reached.Ended verdict.Piece)
+  unfolding pieceOut
+  whole-refused t =
+      ended-is p _ _ (load-whole (p .scaled) (p .walk .source) (p .rows) m ∙ ap (λ (o : Out (Unit {0})). o >> afterWhole p) (part-refused (p .scaled) (wholePart p .pointer) (wholePart p .rows) (pos 0) (wholePart p .width) false t))
 
-  pub whole-given : partBad rows (pos 0) width ≡ false → Reaches (wholeThen p rows width) (3 + leftPass p) (reached.At (stage.Image piece.Whole) (withPart p (partOf (p .walk .source .pointer) rows (pos 0) width)))
-  unfolding comingScaled
+  pub whole-given : partBad (wholePart p .rows) (pos 0) (wholePart p .width) ≡ false → Reaches (passFrom p (afterPart piece.Start p)) (13 + leftPass p) (reached.At stage.Whole p)
+  unfolding comingScaled pieceOut
   whole-given t =
       record {
-        is = sym (ap (passFrom p) (ap (λ (o : Out (Unit {0})). o >> afterPart piece.Whole p) (part-whole (p .scaled) (p .walk .source .pointer) rows (pos 0) width t)));
-        sound = record { pass = same-pass p (partOf (p .walk .source .pointer) rows (pos 0) width) h; part = record { rows = r; width = w } };
+        is = sym (ap (passFrom p) (load-whole (p .scaled) (p .walk .source) (p .rows) m ∙ ap (λ (o : Out (Unit {0})). o >> afterWhole p) (part-whole (p .scaled) (wholePart p .pointer) (wholePart p .rows) (pos 0) (wholePart p .width) t)));
+        sound = h;
         left = omega arith;
       }
 
@@ -93,7 +94,7 @@ next-sound p next h l =
 
 -- the move after the loads, and the rectangle
 module _ (p : Place) (h : SoundPass p) where
-  pub moved-to : (next : Source) → yield next ≡ advance (p .scaled) (p .walk .source) (p .rows) → Reaches (passFrom p (afterPart piece.Rest p)) (1 + leftPass p) (reached.At (stage.Pass due.Rect) (withNext p next))
+  pub moved-to : (next : Source) → yield next ≡ advance (p .scaled) (p .walk .source) (p .rows) → Reaches (passFrom p (afterPart piece.Rest p)) (1 + leftPass p) (reached.At stage.Rect (withNext p next))
   unfolding comingScaled pieceOut
   moved-to next e =
       record {
@@ -107,8 +108,8 @@ module _ (p : Place) (h : SoundPass p) where
   moved-refused e = ended-is p _ _ (sym e)
 
   pub on-to : (pointer : ℕ) (bytes : ℤ) → yield pointer ≡ sourceAddress (p .walk .source .pointer) bytes → bytes ≡ pos (p .scaled .stride) *ℤ p .rows
-      → Reaches (passFrom p (afterPart piece.Whole p)) (1 + leftPass p) (reached.At (stage.Pass due.Rect) (withNext p (record { pointer = pointer; remain = p .walk .source .remain -ℤ p .rows })))
-  unfolding comingScaled pieceOut wholeOut
+      → Reaches (passFrom p (afterWhole p)) (1 + leftPass p) (reached.At stage.Rect (withNext p (record { pointer = pointer; remain = p .walk .source .remain -ℤ p .rows })))
+  unfolding comingScaled wholeOut
   on-to pointer bytes e b =
       record {
         is = sym (rw (← b, ← e) (ap planOut (more-nil (drawn (p .scaled) (p .walk) (p .lines) (record { pointer = pointer; remain = p .walk .source .remain -ℤ p .rows })))));
@@ -116,9 +117,9 @@ module _ (p : Place) (h : SoundPass p) where
         left = omega arith;
       }
 
-  pub on-refused : (bytes : ℤ) → refuse verdict.Address ≡ sourceAddress (p .walk .source .pointer) bytes → bytes ≡ pos (p .scaled .stride) *ℤ p .rows → Reaches (passFrom p (afterPart piece.Whole p)) (1 + leftPass p) (reached.Ended verdict.Address)
-  unfolding pieceOut wholeOut
-  on-refused bytes e b = ended-is p (wholeOut (p .scaled) (p .walk .source) (p .rows)) (1 + leftPass p) (rw (← b, ← e))
+  pub on-refused : (bytes : ℤ) → refuse verdict.Address ≡ sourceAddress (p .walk .source .pointer) bytes → bytes ≡ pos (p .scaled .stride) *ℤ p .rows → Reaches (passFrom p (afterWhole p)) (1 + leftPass p) (reached.Ended verdict.Address)
+  unfolding wholeOut
+  on-refused bytes e b = ended-is p (afterWhole p) (1 + leftPass p) (rw (← b, ← e))
 
   -- no row before the image's last: the tile alone
   pub rest-none : ltZ (pos 0) (loadableOf (p .scaled) (p .walk .source)) ≡ false → Reaches (passFrom p (afterPart piece.SplitA p)) (4 + leftPass p) (reached.At stage.Last p)
@@ -201,12 +202,7 @@ module _ (p : Place) where
             → partThen piece.Top p p2′ (load-rows -ℤ p .walk .source .remain +ℤ pos odd) ((p .walk .source .remain -ℤ pos odd) *ℤ pos (p .scaled .line)) (pos (p .scaled .line)) ≡ topThen p load-rows
         top-3 p2′ f = sym (ap (passFrom p) (ap (λ (x : Out (Unit {0})). x >> afterPart piece.Top p) (from-top p2′ f)))
 
-  -- R 175: no row wraps, or one does
-  pub whole-is : leZ (p .rows +ℤ pos (p .scaled .bilerp)) (loadableOf (p .scaled) (p .walk .source)) ≡ true
-      → wholeThen p (p .rows +ℤ pos (p .scaled .bilerp)) (pos (p .scaled .line)) ≡ passFrom p (afterPart piece.Start p)
-  unfolding pieceOut
-  whole-is t = sym (ap (passFrom p) (load-whole (p .scaled) (p .walk .source) (p .rows) t))
-
+  -- R 175: a row wraps
   pub wraps-is : leZ (p .rows +ℤ pos (p .scaled .bilerp)) (loadableOf (p .scaled) (p .walk .source)) ≡ false → topThen p (p .rows +ℤ pos (p .scaled .bilerp)) ≡ passFrom p (afterPart piece.Start p)
   unfolding pieceOut
   wraps-is t = sym (ap (passFrom p) (load-wraps (p .scaled) (p .walk .source) (p .rows) t))
@@ -230,9 +226,6 @@ module _ (p : Place) where
 
   pub chose-last : Meets choice.Last p → Chose piece.SplitA p choice.Last
   chose-last t = record { is = refl; left = omega arith; meets = t }
-
-  pub chose-on : Chose piece.Whole p choice.On
-  chose-on = record { is = refl; left = omega arith; meets = tt }
 
   pub chose-move : Chose piece.Rest p choice.Move
   chose-move = record { is = refl; left = omega arith; meets = tt }

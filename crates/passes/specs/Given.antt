@@ -30,7 +30,7 @@ use Rattle.tile.specs.declared.load.LoadRequest.the-variants as request
 use Rattle.tile.specs.Load.{requestOf, rowsIn}
 use Rattle.tile.specs.Laws.{rows-in}
 use Rattle.plan.specs.Scaled.{sizeOf, fieldOf, lrsOf, lrtOf, tile7, loadPart, loadRows, rectOf, advance, drawOf, leftAfter, afterDraw, firstPass, passes, scaledPlan}
-use Rattle.passes.specs.declared.types.Piece.{Piece}
+use Rattle.passes.specs.declared.types.Part.{Part}
 use Rattle.passes.specs.declared.types.Piece.the-variants as piece
 use Rattle.passes.specs.declared.types.Due.{Due}
 use Rattle.passes.specs.declared.types.Due.the-variants as due
@@ -41,7 +41,7 @@ use Rattle.passes.specs.declared.types.Place.{Place}
 use Rattle.passes.specs.declared.types.Reached.{Reached}
 use Rattle.passes.specs.declared.types.Reached.the-variants as reached
 use Rattle.passes.specs.declared.types.ScaledNext.the-variants as next
-use Rattle.passes.specs.Coming.{stageOf, passesOf, pieceOut, drawn, passFrom, tile0, imageOf, partOut, afterPart, dueEntry, dueWalk, turnOut, afterTurn, comingScaled}
+use Rattle.passes.specs.Coming.{dueStage, stageOf, passesOf, pieceOut, drawn, passFrom, tile0, imageOf, partOut, rowsOut, wholePart, afterPart, afterWhole, dueEntry, dueWalk, turnOut, afterTurn, comingScaled}
 use Rattle.passes.specs.Loads.{emit-first, emit-plan, then-assoc, after-yield, after-refuse}
 use Rattle.passes.specs.Sound.{SoundWalk, SoundPass, SoundPiece, SoundRect, SoundStart, ClipIn, soundAt, Reaches, Gave, leftAt, leftTurn, leftReached, leftPass, afterPiece}
 use Rattle.passes.specs.Enter.{ended-as}
@@ -138,45 +138,65 @@ never i = let z : _≡_ {A = ℕ} 0 1 = cc in omega arith
 pass-first : (p : Place) (e : Entry) (o : Out Source) → passFrom p (emit e >> o) ≡ cons e (passFrom p o)
 pass-first p e o = emit-first e o (λ source. drawn (p .scaled) (p .walk) (p .lines) source)
 
+-- a part's texture image and its load, in front of what comes after it
+module _ (p : Place) (q : Part) (o : Out Source) where
+  image-first : passFrom p (partOut (p .scaled) q >> o) ≡ cons (imageOf (p .scaled) (q .pointer)) (passFrom p (rowsOut (p .scaled) q >> o))
+  unfolding loadPart
+  image-first = ap (passFrom p) (then-assoc (emit (imageOf (p .scaled) (q .pointer))) (rowsOut (p .scaled) q) o) ∙ pass-first p (imageOf (p .scaled) (q .pointer)) (rowsOut (p .scaled) q >> o)
+
+  load-first : {n m : ℕ} (e : Entry) (r : Reached) → suc n ≤ m → emit e ≡ rowsOut (p .scaled) q → Reaches (passFrom p o) n r → Gave (passFrom p (rowsOut (p .scaled) q >> o)) m (next.Entry e r)
+  load-first e r h i g = let l = g .left in (rw (← i) (pass-first p e o) ∙ ap (cons e) (sym (g .is)), (g .sound, (omega arith, load-in (p .scaled) (q .pointer) (q .rows) (q .width) e i)))
+
+  load-refused : (e : Entry) → stop [] (e ∷ []) verdict.Address ≡ rowsOut (p .scaled) q → (passFrom p (rowsOut (p .scaled) q >> o) ≡ ended (e ∷ []) verdict.Address) × Narrow e
+  load-refused e i = (rw (← i), subst firstNarrow (sym i) (load-narrow (p .scaled) (q .pointer) (q .rows) (q .width)))
+
 module _ (p : Place) where
   pub give-first : (e : Entry) → e ≡ tile7 (p .scaled) (pos 0) → SoundStart p → Gave (comingScaled stage.First p) (leftAt stage.First p) (next.Entry e (reached.At stage.Second p))
   unfolding comingScaled
   give-first e i h = (rw i (emit-plan (tile7 (p .scaled) (pos 0)) (emit (tile0 (p .scaled)) >> (emit (Size 0 0 0 0 0) >> passesOf (p .scaled) (p .walk)))), (h, (omega arith, rw i (tile7-in (p .scaled) (pos 0)))))
 
-  pub give-second : (e : Entry) → e ≡ tile0 (p .scaled) → SoundStart p → Gave (comingScaled stage.Second p) (leftAt stage.Second p) (next.Entry e (reached.At (stage.Pass due.Size) p))
+  pub give-second : (e : Entry) → e ≡ tile0 (p .scaled) → SoundStart p → Gave (comingScaled stage.Second p) (leftAt stage.Second p) (next.Entry e (reached.At stage.Size p))
   unfolding comingScaled
   give-second e i h = (rw i (emit-plan (tile0 (p .scaled)) (emit (Size 0 0 0 0 0) >> passesOf (p .scaled) (p .walk))), (h, (omega arith, rw i (tile0-in (p .scaled) (h .scaled)))))
 
-  give-size : (r : Reached) → Reaches (planOut (passesOf (p .scaled) (p .walk))) (14 * up (p .walk .«frame_remain»)) r → Gave (comingScaled (stage.Pass due.Size) p) (leftAt (stage.Pass due.Size) p) (next.Entry (Size 0 0 0 0 0) r)
+  give-size : (r : Reached) → Reaches (planOut (passesOf (p .scaled) (p .walk))) (14 * up (p .walk .«frame_remain»)) r → Gave (comingScaled stage.Size p) (leftAt stage.Size p) (next.Entry (Size 0 0 0 0 0) r)
   unfolding comingScaled
   give-size r g = let l = g .left in (emit-plan (Size 0 0 0 0 0) (passesOf (p .scaled) (p .walk)) ∙ ap (cons (Size 0 0 0 0 0)) (sym (g .is)), (g .sound, (omega arith, plain-in)))
 
-  module _ (k : Piece) where
-    pub give-tile : (e : Entry) → e ≡ tile7 (p .scaled) (p .part .destination) → SoundPiece p → Gave (comingScaled (stage.Tile k) p) (leftAt (stage.Tile k) p) (next.Entry e (reached.At (stage.Image k) p))
-    unfolding comingScaled
-    give-tile e i h = (rw i (pass-first p (tile7 (p .scaled) (p .part .destination)) (partOut p >> afterPart k p)), (h, (omega arith, rw i (tile7-in (p .scaled) (p .part .destination)))))
+  pub give-whole : (e : Entry) → e ≡ imageOf (p .scaled) (p .walk .source .pointer) → SoundPass p → Gave (comingScaled stage.Whole p) (leftAt stage.Whole p) (next.Entry e (reached.At stage.WholeLoad p))
+  unfolding comingScaled
+  give-whole e i h = (rw i (image-first p (wholePart p) (afterWhole p)), (h, (omega arith, rw i (image-in (p .scaled) (p .walk .source .pointer)))))
 
-    pub give-image : (e : Entry) → e ≡ imageOf (p .scaled) (p .part .pointer) → SoundPiece p → Gave (comingScaled (stage.Image k) p) (leftAt (stage.Image k) p) (next.Entry e (reached.At (stage.Load k) p))
-    unfolding comingScaled loadPart
-    give-image e i h =
-        (rw i (ap (passFrom p) (then-assoc (emit (imageOf (p .scaled) (p .part .pointer))) (loadRows (p .scaled) (p .part .pointer) (p .part .rows) (p .part .width)) (afterPart k p)) ∙ pass-first p (imageOf (p .scaled) (p .part .pointer)) (loadRows (p .scaled) (p .part .pointer) (p .part .rows) (p .part .width) >> afterPart k p)), (h, (omega arith, rw i (image-in (p .scaled) (p .part .pointer)))))
+  pub give-whole-load : (e : Entry) (r : Reached) → emit e ≡ rowsOut (p .scaled) (wholePart p) → Reaches (passFrom p (afterWhole p)) (1 + leftPass p) r → Gave (comingScaled stage.WholeLoad p) (leftAt stage.WholeLoad p) (next.Entry e r)
+  unfolding comingScaled
+  give-whole-load e r i g = load-first p (wholePart p) (afterWhole p) e r (omega arith) i g
 
-    give-load : (e : Entry) (r : Reached) → emit e ≡ loadRows (p .scaled) (p .part .pointer) (p .part .rows) (p .part .width) → Reaches (passFrom p (afterPart k p)) (afterPiece k + leftPass p) r
-        → Gave (comingScaled (stage.Load k) p) (leftAt (stage.Load k) p) (next.Entry e r)
-    unfolding comingScaled
-    give-load e r i g = let l = g .left in (rw (← i) (pass-first p e (afterPart k p)) ∙ ap (cons e) (sym (g .is)), (g .sound, (omega arith, load-in (p .scaled) (p .part .pointer) (p .part .rows) (p .part .width) e i)))
+  pub refuse-whole : (e : Entry) → stop [] (e ∷ []) verdict.Address ≡ rowsOut (p .scaled) (wholePart p) → Gave (comingScaled stage.WholeLoad p) (leftAt stage.WholeLoad p) (next.Refused e)
+  unfolding comingScaled
+  refuse-whole e i = load-refused p (wholePart p) (afterWhole p) e i
 
-    refuse-load : (e : Entry) → stop [] (e ∷ []) verdict.Address ≡ loadRows (p .scaled) (p .part .pointer) (p .part .rows) (p .part .width)
-        → Gave (comingScaled (stage.Load k) p) (leftAt (stage.Load k) p) (next.Refused e)
-    unfolding comingScaled
-    refuse-load e i = (rw (← i), subst firstNarrow (sym i) (load-narrow (p .scaled) (p .part .pointer) (p .part .rows) (p .part .width)))
+  pub give-tile : (e : Entry) → e ≡ tile7 (p .scaled) (p .part .destination) → SoundPiece p → Gave (comingScaled stage.Tile p) (leftAt stage.Tile p) (next.Entry e (reached.At stage.Image p))
+  unfolding comingScaled
+  give-tile e i h = (rw i (pass-first p (tile7 (p .scaled) (p .part .destination)) (partOut (p .scaled) (p .part) >> afterPart (p .piece) p)), (h, (omega arith, rw i (tile7-in (p .scaled) (p .part .destination)))))
+
+  pub give-image : (e : Entry) → e ≡ imageOf (p .scaled) (p .part .pointer) → SoundPiece p → Gave (comingScaled stage.Image p) (leftAt stage.Image p) (next.Entry e (reached.At stage.Load p))
+  unfolding comingScaled
+  give-image e i h = (rw i (image-first p (p .part) (afterPart (p .piece) p)), (h, (omega arith, rw i (image-in (p .scaled) (p .part .pointer)))))
+
+  give-load : (e : Entry) (r : Reached) → emit e ≡ rowsOut (p .scaled) (p .part) → Reaches (passFrom p (afterPart (p .piece) p)) (afterPiece (p .piece) + leftPass p) r → Gave (comingScaled stage.Load p) (leftAt stage.Load p) (next.Entry e r)
+  unfolding comingScaled
+  give-load e r i g = load-first p (p .part) (afterPart (p .piece) p) e r (omega arith) i g
+
+  refuse-load : (e : Entry) → stop [] (e ∷ []) verdict.Address ≡ rowsOut (p .scaled) (p .part) → Gave (comingScaled stage.Load p) (leftAt stage.Load p) (next.Refused e)
+  unfolding comingScaled
+  refuse-load e i = load-refused p (p .part) (afterPart (p .piece) p) e i
 
   give-last : (e : Entry) (r : Reached) → e ≡ tile7 (p .scaled) (pos 0) → Reaches (passFrom p (afterPart piece.Rest p)) (1 + leftPass p) r → Gave (comingScaled stage.Last p) (leftAt stage.Last p) (next.Entry e r)
   unfolding comingScaled pieceOut
   give-last e r i g = let l = g .left in (ap (λ (x : Entry). passFrom p (emit x >> advance (p .scaled) (p .walk .source) (p .rows))) (sym i) ∙ pass-first p e (advance (p .scaled) (p .walk .source) (p .rows)) ∙ ap (cons e) (sym (g .is)), (g .sound, (omega arith, rw i (tile7-in (p .scaled) (pos 0)))))
 
   give-rect : (e : Entry) (n : Walk) (r : Reached) → e ≡ rectOf (p .scaled) (p .walk) (p .lines) → n ≡ afterDraw (p .scaled) (p .walk) (drawOf (p .walk)) (p .lines) (p .next) → SoundRect p
-      → Reaches (planOut (passesOf (p .scaled) n)) (14 * up (n .«frame_remain»)) r → Gave (comingScaled (stage.Pass due.Rect) p) (leftAt (stage.Pass due.Rect) p) (next.Entry e r)
+      → Reaches (planOut (passesOf (p .scaled) n)) (14 * up (n .«frame_remain»)) r → Gave (comingScaled stage.Rect p) (leftAt stage.Rect p) (next.Entry e r)
   unfolding comingScaled drawn
   give-rect e n r i j h g =
       let l = g .left in
@@ -194,24 +214,24 @@ module _ (p : Place) where
       less l a b c = omega arith
 
   -- the walk before the next pass is sound, where lines are left
-  pub due-sound : (d : Due) → soundAt (stage.Pass d) p → SoundScaled (p .scaled) × (pos 1 ≤ℤ dueWalk d p .«frame_remain» → SoundWalk (dueWalk d p))
+  pub due-sound : (d : Due) → soundAt (dueStage d) p → SoundScaled (p .scaled) × (pos 1 ≤ℤ dueWalk d p .«frame_remain» → SoundWalk (dueWalk d p))
   due-sound due.Size h = (h .scaled, λ _. h .walk)
   due-sound due.Rect h = (h .pass .scaled, h .next)
 
   -- the size or the rectangle, and the pass after it
-  give-pass : (d : Due) (e : Entry) (n : Walk) (r : Reached) → e ≡ dueEntry d p → n ≡ dueWalk d p → soundAt (stage.Pass d) p → Reaches (planOut (passesOf (p .scaled) n)) (14 * up (n .«frame_remain»)) r
-      → Gave (comingScaled (stage.Pass d) p) (leftAt (stage.Pass d) p) (next.Entry e r)
+  give-pass : (d : Due) (e : Entry) (n : Walk) (r : Reached) → e ≡ dueEntry d p → n ≡ dueWalk d p → soundAt (dueStage d) p → Reaches (planOut (passesOf (p .scaled) n)) (14 * up (n .«frame_remain»)) r
+      → Gave (comingScaled (dueStage d) p) (leftAt (dueStage d) p) (next.Entry e r)
   give-pass due.Size e n r i j h g = rw i (give-size r (rw j at g))
   give-pass due.Rect e n r i j h g = give-rect e n r i j h g
 
   -- a turn's entry, and what comes after it
   pub give-turn : (t : Turn) (e : Entry) (r : Reached) → soundAt (stageOf t) p → emit e ≡ turnOut t p → Reaches (afterTurn t p) (leftTurn t p) r → Gave (comingScaled (stageOf t) p) (leftAt (stageOf t) p) (next.Entry e r)
-  give-turn (turn.Load k) e r h i g = give-load k e r i g
+  give-turn turn.Load e r h i g = give-load e r i g
   give-turn turn.Last e r h i g = give-last e r (cc) g
   give-turn (turn.Pass d) e r h i g = give-pass d e (dueWalk d p) r (cc) refl h g
 
   pub refuse-turn : (t : Turn) (e : Entry) → stop [] (e ∷ []) verdict.Address ≡ turnOut t p → Gave (comingScaled (stageOf t) p) (leftAt (stageOf t) p) (next.Refused e)
-  refuse-turn (turn.Load k) e i = refuse-load k e i
+  refuse-turn turn.Load e i = refuse-load e i
   refuse-turn turn.Last e i = absurd (never i)
   refuse-turn (turn.Pass d) e i = absurd (never i)
 

@@ -24,7 +24,6 @@ use Rattle.plan.specs.Scaled.{drawOf, leftAfter, linesOf, rowsOf, afterDraw}
 use Rattle.passes.specs.declared.types.Part.{Part}
 use Rattle.passes.specs.declared.types.Piece.{Piece}
 use Rattle.passes.specs.declared.types.Piece.the-variants as piece
-use Rattle.passes.specs.declared.types.Due.the-variants as due
 use Rattle.passes.specs.declared.types.Choice.{Choice}
 use Rattle.passes.specs.declared.types.Choice.the-variants as choice
 use Rattle.passes.specs.declared.types.Turn.{Turn}
@@ -113,12 +112,14 @@ pub record SoundStart (p : Place) : Type 0 where
 abbrev pub soundAt : Stage → Place → Type 0
 soundAt stage.First p = SoundStart p
 soundAt stage.Second p = SoundStart p
-soundAt (stage.Tile k) p = SoundPiece p
-soundAt (stage.Image k) p = SoundPiece p
-soundAt (stage.Load k) p = SoundPiece p
+soundAt stage.Whole p = SoundPass p
+soundAt stage.WholeLoad p = SoundPass p
+soundAt stage.Tile p = SoundPiece p
+soundAt stage.Image p = SoundPiece p
+soundAt stage.Load p = SoundPiece p
 soundAt stage.Last p = SoundPass p
-soundAt (stage.Pass due.Size) p = SoundStart p
-soundAt (stage.Pass due.Rect) p = SoundRect p
+soundAt stage.Size p = SoundStart p
+soundAt stage.Rect p = SoundRect p
 
 abbrev pub soundReached : Reached → Type 0
 soundReached (reached.At s p) = soundAt s p
@@ -127,7 +128,6 @@ soundReached (reached.Ended v) = Unit {0}
 -- the entries that come after a part, its pass's rectangle included, at the most
 abbrev pub afterPiece : Piece → ℕ
 afterPiece piece.Start = 13
-afterPiece piece.Whole = 1
 afterPiece piece.Top = 10
 afterPiece piece.SplitB = 7
 afterPiece piece.SplitA = 4
@@ -141,16 +141,18 @@ leftPass p = 14 * (up (p .walk .«frame_remain») - 1)
 abbrev pub leftAt : Stage → Place → ℕ
 leftAt stage.First p = 3 + 14 * up (p .walk .«frame_remain»)
 leftAt stage.Second p = 2 + 14 * up (p .walk .«frame_remain»)
-leftAt (stage.Tile k) p = 3 + afterPiece k + leftPass p
-leftAt (stage.Image k) p = 2 + afterPiece k + leftPass p
-leftAt (stage.Load k) p = 1 + afterPiece k + leftPass p
+leftAt stage.Whole p = 3 + leftPass p
+leftAt stage.WholeLoad p = 2 + leftPass p
+leftAt stage.Tile p = 3 + afterPiece (p .piece) + leftPass p
+leftAt stage.Image p = 2 + afterPiece (p .piece) + leftPass p
+leftAt stage.Load p = 1 + afterPiece (p .piece) + leftPass p
 leftAt stage.Last p = 2 + leftPass p
-leftAt (stage.Pass due.Size) p = 1 + 14 * up (p .walk .«frame_remain»)
-leftAt (stage.Pass due.Rect) p = 1 + leftPass p
+leftAt stage.Size p = 1 + 14 * up (p .walk .«frame_remain»)
+leftAt stage.Rect p = 1 + leftPass p
 
 -- the entries after a turn's, at the most
 abbrev pub leftTurn : Turn → Place → ℕ
-leftTurn (turn.Load k) p = afterPiece k + leftPass p
+leftTurn turn.Load p = afterPiece (p .piece) + leftPass p
 leftTurn turn.Last p = 1 + leftPass p
 leftTurn (turn.Pass d) p = 14 * up (dueWalk d p .«frame_remain»)
 
@@ -177,7 +179,6 @@ before choice.SplitB = piece.Top
 before choice.SplitA = piece.SplitB
 before choice.Rest = piece.SplitA
 before choice.Last = piece.SplitA
-before choice.On = piece.Whole
 before choice.Move = piece.Rest
 
 abbrev pub Meets : Choice → Place → Type 0
@@ -187,7 +188,6 @@ Meets choice.SplitB p = eqb (p .scaled .split) 0 ≡ false
 Meets choice.SplitA p = Unit {0}
 Meets choice.Rest p = ltZ (pos 0) (loadableOf (p .scaled) (p .walk .source)) ≡ true
 Meets choice.Last p = ltZ (pos 0) (loadableOf (p .scaled) (p .walk .source)) ≡ false
-Meets choice.On p = Unit {0}
 Meets choice.Move p = Unit {0}
 
 -- the choice after a part: what is to come is the same, and its test holds

@@ -7,10 +7,10 @@ ghost use lib.Signed.{ltZ};
 ghost use Rattle.object.specs.Range.{Within};
 ghost use Rattle.plan.specs.Sound.{SoundScaled};
 ghost use Rattle.plan.specs.Scaled.{back as backOf};
-ghost use Rattle.passes.specs.Coming.{sumOut, passFrom, partThen, wholeThen, topThen, partsFrom, afterPart};
+ghost use Rattle.passes.specs.Coming.{sumOut, passFrom, partThen, wholePart, topThen, partsFrom, afterPart, afterWhole};
 ghost use Rattle.passes.specs.Loads.{partBad};
-ghost use Rattle.passes.specs.Sound.{SoundPass, SplitIs, Reaches, Meets, Chose, leftPass, afterPiece};
-ghost use Rattle.passes.specs.declared.types.Piece.the-variants.{Start, Whole, Top, SplitB, SplitA, Rest};
+ghost use Rattle.passes.specs.Sound.{SoundPass, SoundPart, SplitIs, Reaches, Meets, Chose, leftPass, afterPiece};
+ghost use Rattle.passes.specs.declared.types.Piece.the-variants.{Start, Top, SplitB, SplitA, Rest};
 use crate::rows::difference;
 use crate::rows::less;
 use crate::rows::plus;
@@ -19,7 +19,6 @@ use crate::rows::times;
 use crate::sums::advance;
 use crate::sums::source_address;
 use crate::types::Choice;
-use crate::types::Due;
 use crate::types::Moved;
 use crate::types::Part;
 use crate::types::Piece;
@@ -60,31 +59,36 @@ fn enter(k: Piece, pointer: u64, rows: i64, destination: i64, width: i64, p: Pla
         destination,
         width,
     };
-    let mut q = p;
-    q.part = part;
-    Reached::At(Stage::Tile(k), q)
+    let scaled = p.scaled;
+    let walk = p.walk;
+    let next = p.next;
+    let q = Place {
+        scaled,
+        walk,
+        rows: p.rows,
+        lines: p.lines,
+        part,
+        spare: p.spare,
+        next,
+        piece: k,
+    };
+    Reached::At(Stage::Tile, q)
 }
 
 // The whole load in one part, over the tile that stands.
-fn enter_whole(rows: i64, width: i64, p: Place) -> Reached
+pub fn whole_part(p: Place) -> Part
     requires { ⌜ SoundPass p ⌝ }
-    requires { ⌜ (Within 47 rows) × Within 47 width ⌝ }
-    ensures { λ r. ⌜ Reaches (wholeThen p rows width) (3 + leftPass p) r ⌝ }
+    ensures { λ r. ⌜ (r ≡ wholePart p) × SoundPart r ⌝ }
 {
-    if part_bad(rows, 0, width) {
-        return Reached::Ended(Verdict::Piece);
-    }
+    let z = p.scaled;
     let w = p.walk;
     let source = w.source;
-    let part = Part {
+    Part {
         pointer: source.pointer,
-        rows,
+        rows: plus(p.rows, z.bilerp),
         destination: 0,
-        width,
-    };
-    let mut q = p;
-    q.part = part;
-    Reached::At(Stage::Image(Piece::Whole), q)
+        width: z.line as i64,
+    }
 }
 
 // One row back, where a load must start at an even row.
@@ -110,15 +114,15 @@ fn moved(p: Place) -> Reached
         Moved::To(next) => {
             let mut q = p;
             q.next = next;
-            Reached::At(Stage::Pass(Due::Rect), q)
+            Reached::At(Stage::Rect, q)
         }
     }
 }
 
 // The move where no row wraps.
-fn moved_on(p: Place) -> Reached
+pub fn moved_on(p: Place) -> Reached
     requires { ⌜ SoundPass p ⌝ }
-    ensures { λ r. ⌜ Reaches (passFrom p (afterPart Whole p)) (1 + leftPass p) r ⌝ }
+    ensures { λ r. ⌜ Reaches (passFrom p (afterWhole p)) (1 + leftPass p) r ⌝ }
 {
     let z = p.scaled;
     let w = p.walk;
@@ -131,7 +135,7 @@ fn moved_on(p: Place) -> Reached
             let next = Source { pointer, remain };
             let mut q = p;
             q.next = next;
-            Reached::At(Stage::Pass(Due::Rect), q)
+            Reached::At(Stage::Rect, q)
         }
     }
 }
@@ -256,8 +260,11 @@ fn whole(p: Place) -> Reached
     requires { ⌜ Meets Choice.Whole p ⌝ }
     ensures { λ r. ⌜ Reaches (passFrom p (afterPart Start p)) (13 + leftPass p) r ⌝ }
 {
-    let z = p.scaled;
-    enter_whole(plus(p.rows, z.bilerp), z.line as i64, p)
+    let part = whole_part(p);
+    if part_bad(part.rows, 0, part.width) {
+        return Reached::Ended(Verdict::Piece);
+    }
+    Reached::At(Stage::Whole, p)
 }
 
 // The rows before the image's last; where there are none, the tile alone.
@@ -313,7 +320,6 @@ fn chosen(k: Piece, p: Place) -> Choice
 {
     match k {
         Piece::Start => at_start(p),
-        Piece::Whole => Choice::On,
         Piece::Top => after_top(p),
         Piece::SplitB => Choice::SplitA,
         Piece::SplitA => after_split(p),
@@ -333,7 +339,6 @@ pub fn after_part(k: Piece, p: Place) -> Reached
         Choice::SplitA => split_a(p),
         Choice::Rest => rest(p),
         Choice::Last => Reached::At(Stage::Last, p),
-        Choice::On => moved_on(p),
         Choice::Move => moved(p),
     }
 }

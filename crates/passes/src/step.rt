@@ -8,10 +8,12 @@ ghost use Rattle.signed.specs.Cast.{u16, i16};
 ghost use Rattle.object.specs.Range.{Within};
 ghost use Rattle.plan.specs.Out.{planOut};
 ghost use Rattle.plan.specs.Sound.{SoundScaled, SoundFirst};
-ghost use Rattle.plan.specs.Scaled.{tile7 as tile7Of, lrsOf, lrtOf, loadRows, rectOf, scaledPlan};
-ghost use Rattle.passes.specs.Coming.{tile0 as tile0Of, imageOf, dueEntry, dueWalk, stageOf, turnOut, afterTurn, comingScaled};
+ghost use Rattle.plan.specs.Scaled.{tile7 as tile7Of, lrsOf, lrtOf, rectOf, scaledPlan};
+ghost use Rattle.passes.specs.Coming.{tile0 as tile0Of, imageOf, rowsOut, dueEntry, dueWalk, dueStage, stageOf, turnOut, afterTurn, comingScaled};
 ghost use Rattle.passes.specs.Sound.{SoundPass, SoundPart, ClipIn, soundAt, leftAt, leftTurn, Reaches, Begins, Gave, loadedOut};
 use crate::load::after_part;
+use crate::load::moved_on;
+use crate::load::whole_part;
 use crate::rows::less;
 use crate::sums::source_address;
 use crate::types::Begun;
@@ -120,7 +122,7 @@ fn lower(z: Scaled, rows: i64) -> u16
 fn load(z: Scaled, q: Part) -> Loaded
     requires { ⌜ SoundScaled z ⌝ }
     requires { ⌜ SoundPart q ⌝ }
-    ensures { λ r. ⌜ loadedOut r ≡ loadRows z (q .pointer) (q .rows) (q .width) ⌝ }
+    ensures { λ r. ⌜ loadedOut r ≡ rowsOut z q ⌝ }
 {
     let lrs = right(q.width);
     let lrt = lower(z, q.rows);
@@ -188,7 +190,7 @@ fn rect(p: Place) -> Entry
 
 // What is given before the next pass.
 fn due_entry(due: Due, p: Place) -> Entry
-    requires { ⌜ soundAt (Stage.Pass due) p ⌝ }
+    requires { ⌜ soundAt (dueStage due) p ⌝ }
     ensures { λ r. ⌜ r ≡ dueEntry due p ⌝ }
 {
     match due {
@@ -205,7 +207,7 @@ fn due_entry(due: Due, p: Place) -> Entry
 
 // The walk before the next pass: after a rectangle, the one that its pass leaves.
 fn due_walk(due: Due, p: Place) -> Walk
-    requires { ⌜ soundAt (Stage.Pass due) p ⌝ }
+    requires { ⌜ soundAt (dueStage due) p ⌝ }
     ensures { λ r. ⌜ r ≡ dueWalk due p ⌝ }
 {
     match due {
@@ -220,7 +222,7 @@ fn turn_entry(turn: Turn, p: Place) -> Loaded
     ensures { λ r. ⌜ loadedOut r ≡ turnOut turn p ⌝ }
 {
     match turn {
-        Turn::Load(_) => load(p.scaled, p.part),
+        Turn::Load => load(p.scaled, p.part),
         Turn::Last => Loaded::Entry(tile7(p.scaled, 0)),
         Turn::Pass(due) => Loaded::Entry(due_entry(due, p)),
     }
@@ -232,7 +234,10 @@ fn begun(turn: Turn, p: Place) -> Begun
     ensures { λ r. ⌜ Begins (afterTurn turn p) (leftTurn turn p) r ⌝ }
 {
     match turn {
-        Turn::Load(k) => Begun::At(k, p),
+        Turn::Load => {
+            let k = p.piece;
+            Begun::At(k, p)
+        }
         Turn::Last => Begun::At(Piece::Rest, p),
         Turn::Pass(due) => next_pass(due_walk(due, p), p),
     }
@@ -260,8 +265,18 @@ fn turn_step(turn: Turn, p: Place) -> ScaledNext
     }
 }
 
-// What comes next of a scaled plan. The stages of a turn meet in one call of `turn_step`, so that the compiler inlines it; a stage that held the turn would have three bytes and not stay in a
-// register.
+// The load of a pass where no row wraps, and what comes after it unless it is refused.
+fn whole_step(p: Place) -> ScaledNext
+    requires { ⌜ soundAt Stage.WholeLoad p ⌝ }
+    ensures { λ r. ⌜ Gave (comingScaled Stage.WholeLoad p) (leftAt Stage.WholeLoad p) r ⌝ }
+{
+    match load(p.scaled, whole_part(p)) {
+        Loaded::Entry(entry) => ScaledNext::Entry(entry, moved_on(p)),
+        Loaded::Refused(size) => ScaledNext::Refused(size),
+    }
+}
+
+// What comes next of a scaled plan. The stages of a turn meet in one call of `turn_step`, so that the compiler inlines it.
 pub fn scaled_next(stage: Stage, p: Place) -> ScaledNext
     requires { ⌜ soundAt stage p ⌝ }
     ensures { λ r. ⌜ Gave (comingScaled stage p) (leftAt stage p) r ⌝ }
@@ -271,22 +286,31 @@ pub fn scaled_next(stage: Stage, p: Place) -> ScaledNext
             return ScaledNext::Entry(tile7(p.scaled, 0), Reached::At(Stage::Second, p));
         }
         Stage::Second => {
-            let next = Stage::Pass(Due::Size);
-            return ScaledNext::Entry(tile0(p.scaled), Reached::At(next, p));
+            return ScaledNext::Entry(tile0(p.scaled), Reached::At(Stage::Size, p));
         }
-        Stage::Tile(k) => {
+        Stage::Whole => {
+            let w = p.walk;
+            let source = w.source;
+            let entry = image(p.scaled, source.pointer);
+            return ScaledNext::Entry(entry, Reached::At(Stage::WholeLoad, p));
+        }
+        Stage::WholeLoad => {
+            return whole_step(p);
+        }
+        Stage::Tile => {
             let q = p.part;
             let entry = tile7(p.scaled, q.destination);
-            return ScaledNext::Entry(entry, Reached::At(Stage::Image(k), p));
+            return ScaledNext::Entry(entry, Reached::At(Stage::Image, p));
         }
-        Stage::Image(k) => {
+        Stage::Image => {
             let q = p.part;
             let entry = image(p.scaled, q.pointer);
-            return ScaledNext::Entry(entry, Reached::At(Stage::Load(k), p));
+            return ScaledNext::Entry(entry, Reached::At(Stage::Load, p));
         }
-        Stage::Load(k) => Turn::Load(k),
+        Stage::Load => Turn::Load,
         Stage::Last => Turn::Last,
-        Stage::Pass(due) => Turn::Pass(due),
+        Stage::Size => Turn::Pass(Due::Size),
+        Stage::Rect => Turn::Pass(Due::Rect),
     };
     turn_step(turn, p)
 }
@@ -326,6 +350,7 @@ pub fn scaled_start(z: Scaled, c: Clip, f: First) -> Reached
         part,
         spare: 0,
         next: source,
+        piece: Piece::Start,
     };
     Reached::At(Stage::First, place)
 }

@@ -32,17 +32,16 @@ pub struct Split {
     pub width: i64,
 }
 
-// Which part of a pass's load is given: none yet; the whole, where no row wraps; else the rows from the image's top, the two parts of its last row, and the rows before that.
+// Which part of a load that wraps is given: none yet, the rows from the image's top, the two parts of its last row, and the rows before that.
 pub enum Piece {
     Start,
-    Whole,
     Top,
     SplitB,
     SplitA,
     Rest,
 }
 
-// What comes after a part: another part, the tile alone, or the move, on where no row wraps.
+// What comes after a part: the whole load, where no row wraps; another part; the tile alone; or the move.
 pub enum Choice {
     Whole,
     Top,
@@ -50,7 +49,6 @@ pub enum Choice {
     SplitA,
     Rest,
     Last,
-    On,
     Move,
 }
 
@@ -62,23 +60,26 @@ pub enum Due {
 
 // The entries after which a part is chosen: a part's load, the tile alone, or what is given before a pass.
 pub enum Turn {
-    Load(Piece),
+    Load,
     Last,
     Pass(Due),
 }
 
-// Which entry comes next.
+// Which entry comes next. One byte: what a stage would hold besides stands in the place, so that the compiler keeps the stage in a register.
 pub enum Stage {
     First,
     Second,
-    Tile(Piece),
-    Image(Piece),
-    Load(Piece),
+    Whole,
+    WholeLoad,
+    Tile,
+    Image,
+    Load,
     Last,
-    Pass(Due),
+    Size,
+    Rect,
 }
 
-// A pass under way: the walk before it, its rows and lines, the part that is given, the pointer of the last row's first part, and where the next pass starts.
+// A pass under way: the walk before it, its rows and lines, the part that is given and which one it is, the pointer of the last row's first part, and where the next pass starts.
 pub struct Place {
     pub scaled: Scaled,
     pub walk: Walk,
@@ -87,6 +88,7 @@ pub struct Place {
     pub part: Part,
     pub spare: u64,
     pub next: Source,
+    pub piece: Piece,
 }
 
 pub enum Reached {

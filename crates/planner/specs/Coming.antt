@@ -14,7 +14,7 @@ use Rattle.plan.specs.declared.types.Answer.the-variants as answer
 use Rattle.plan.specs.Request.{Request}
 use Rattle.plan.specs.Out.{Plan, planOut}
 use Rattle.plan.specs.Next.{ended}
-use Rattle.plan.specs.Sound.{Narrow}
+use Rattle.plan.specs.Sound.{Narrow, EntryIn}
 use Rattle.plan.specs.Whole.{copyOut, scaledOut, planOf}
 use Rattle.plan.specs.Steps.{Coming, comingOf, nextOf, answerOf, bankNext}
 use Rattle.copy.specs.Coming.{comingCopy}
@@ -80,9 +80,9 @@ leftIn (given.Entry e) = []
 leftIn (given.Refused s x) = s ∷ []
 leftIn (given.End x) = []
 
--- what a tile keeps of it fits the tile's fields
+-- an entry's numbers have their ranges; what a tile keeps of a size fits the tile's fields
 abbrev pub givenIn : Given → Type 0
-givenIn (given.Entry e) = Narrow e
+givenIn (given.Entry e) = EntryIn e
 givenIn (given.Refused s x) = Narrow s
 givenIn (given.End x) = Unit {0}
 
@@ -95,7 +95,7 @@ leftNext (e ∷ es) left = []
 pub record StepGives (p : Planner) (r : Step) : Type 0 where
   pub answer : answerIn (r .given) ≡ answerOf (coming p .entries) (coming p .end)
   pub left : leftIn (r .given) ≡ leftNext (coming p .entries) (coming p .left)
-  pub narrow : givenIn (r .given)
+  pub ranges : givenIn (r .given)
   pub rest : coming (r .planner) ≡ nextOf (coming p .entries) (coming p .left) (coming p .end)
   pub counts : r .planner .counts ≡ countsNext (coming p .entries) (p .counts)
   pub sound : Sound (r .planner)

@@ -6,76 +6,77 @@ use mathlib.Core.List.{List, [], _∷_, _++_, append-assoc, append-nil}
 use Prim.Native.Nat.{ℕ, zero, suc, _+_, _-_, _*_, _/_, _≤_, _<_}
 use native.Mathlib.Omega.{arith}
 use lib.Dec.{ltb}
-use lib.ListN.{length, take, drop, replicate, length-append}
+use lib.ListN.{length, take, drop, length-append}
 use lib.Seq.{paste, length-paste, take-at, drop-at, take-all, drop-drop}
 use borrow.Author.Tests.{lt-ltb, le-ltb, ltb-true, ltb-false}
 use Rattle.object.specs.declared.types.Scissor.{Scissor}
 use Rattle.object.specs.declared.types.Verdict.the-variants as verdict
 use Rattle.tile.specs.declared.bank.Bank.{Bank}
-use Rattle.tile.specs.Bank.{blank}
 use Rattle.plan.specs.declared.types.Entry.{Entry}
 use Rattle.plan.specs.declared.types.End.{End}
 use Rattle.plan.specs.declared.types.Answer.the-variants as answer
 use Rattle.plan.specs.Out.{Plan}
 use Rattle.plan.specs.Whole.{planOf}
-use Rattle.plan.specs.Run.{bankStep, bankAfter, bankOf, entryWords, planWords, endOf, cutAt, runOf}
+use Rattle.plan.specs.Run.{entryWords, planWords, endOf, cutAt, runOf}
 use Rattle.plan.specs.Steps.{Coming, comingOf}
 use Rattle.words.specs.declared.count.Counts.{Counts}
 use Rattle.words.specs.Counts.{zeroCounts, countedOf, countedAll, endWith, end-of}
 use Rattle.words.specs.Eleven.{eleven, eleven-each}
+use Rattle.words.specs.Host.{bankNumbers, wordsStep, wordsAfter, runWords, run-end, run-bank, run-buffer}
 use Rattle.planner.specs.declared.types.Planner.{Planner}
 use Rattle.planner.specs.declared.types.Given.{Given}
 use Rattle.planner.specs.declared.types.Given.the-variants as given
 use Rattle.planner.specs.declared.types.Step.{Step}
-use Rattle.planner.specs.declared.types.Ran.{Ran}
-use Rattle.planner.specs.Coming.{coming, countsNext, answerIn, leftIn, Sound, StepGives, requestOf}
+use Rattle.planner.specs.Coming.{coming, comingCourse, countsNext, answerIn, leftIn, Sound, StepGives, requestOf}
 use Rattle.planner.specs.Step.{gave-entry, gave-rest, gave-end}
 
--- D "A whole run writes entries of eleven 64-bit words": the end, the bank and the whole buffer
-pub record RanIs (bytes : List ℕ) (opcode : ℕ) (scissor : Scissor) (mode address : ℕ) (buf : List ℕ) (b : Bank) (out : List ℕ) (r : Ran) : Type 0 where
-  pub end : r .end ≡ runOf (planOf (requestOf bytes opcode scissor mode address)) buf b .end
-  pub bank : r .bank ≡ runOf (planOf (requestOf bytes opcode scissor mode address)) buf b .bank
-  pub buffer : out ≡ runOf (planOf (requestOf bytes opcode scissor mode address)) buf b .buffer
+-- D "A whole run writes entries of eleven 64-bit words": the end, the whole buffer and the bank's words
+pub record RanIs (bytes : List ℕ) (opcode : ℕ) (scissor : Scissor) (mode address : ℕ) (buf ws out ws′ : List ℕ) (r : End) : Type 0 where
+  pub end : r ≡ runWords (planOf (requestOf bytes opcode scissor mode address)) buf ws .end
+  pub bank : ws′ ≡ runWords (planOf (requestOf bytes opcode scissor mode address)) buf ws .bank
+  pub buffer : out ≡ runWords (planOf (requestOf bytes opcode scissor mode address)) buf ws .buffer
 
--- a bank of blank tiles
-abbrev pub blankBank : Bank
-blankBank = record { tiles = replicate 8 blank }
+-- on the numbers of a bank, it is document 01's run
+pub ran-is : (bytes : List ℕ) (opcode : ℕ) (scissor : Scissor) (mode address : ℕ) (buf out ws′ : List ℕ) (r : End) (b : Bank) → length (b .tiles) ≡ 8 → RanIs bytes opcode scissor mode address buf (bankNumbers b) out ws′ r
+    → (r ≡ runOf (planOf (requestOf bytes opcode scissor mode address)) buf b .end) × (ws′ ≡ bankNumbers (runOf (planOf (requestOf bytes opcode scissor mode address)) buf b .bank)) × (out ≡ runOf (planOf (requestOf bytes opcode scissor mode address)) buf b .buffer)
+ran-is bytes opcode scissor mode address buf out ws′ r b n h =
+    let p = planOf (requestOf bytes opcode scissor mode address) in
+    (h .end ∙ run-end p buf (bankNumbers b) b, h .bank ∙ run-bank p buf b n, h .buffer ∙ run-buffer p buf (bankNumbers b) b)
 
--- no room for another entry; one that is not kept needs none
-abbrev pub shortOf : (kept : Bool) (words at : ℕ) → Bool
-shortOf true words at = ltb (words - at) 11
-shortOf false words at = false
+-- the words from one entry to the next: none where entries are only counted
+abbrev pub strideOf : Bool → ℕ
+strideOf kept = cond kept 11 0
 
--- the buffer after an entry
-abbrev pub keptOf : (kept : Bool) (out : List ℕ) (at : ℕ) → Entry → List ℕ
-keptOf true out at e = paste out at (entryWords e) 11
-keptOf false out at e = out
-
--- the entries that are written
-abbrev pub written : (kept : Bool) → List Entry → List Entry
-written true es = es
-written false es = []
+pub stride-small : (kept : Bool) → strideOf kept ≤ 11
+stride-small true = omega arith
+stride-small false = omega arith
 
 -- where steps lead: a run's answer if the entries are kept, else the end
-abbrev pub StepsTo : (kept : Bool) → Coming → (buf : List ℕ) → Bank → (out : List ℕ) → Ran → Type 0
-StepsTo true k buf b out r = (plan : Plan) → k ≡ comingOf plan → (r .end ≡ runOf plan buf b .end) × ((r .bank ≡ runOf plan buf b .bank) × (out ≡ runOf plan buf b .buffer))
-StepsTo false k buf b out r = r .end ≡ k .end
+abbrev pub StepsTo : (kept : Bool) → Coming → (buf ws out ws′ : List ℕ) → End → Type 0
+StepsTo true k buf ws out ws′ r = (plan : Plan) → k ≡ comingOf plan → (r ≡ runWords plan buf ws .end) × ((ws′ ≡ runWords plan buf ws .bank) × (out ≡ runWords plan buf ws .buffer))
+StepsTo false k buf ws out ws′ r = r ≡ k .end
 
--- `given` is in the buffer, as far as entries are kept
-pub record Written (kept : Bool) (buf out : List ℕ) (at : ℕ) (given : List Entry) : Type 0 where
-  pub place : at ≡ 11 * length (written kept given)
-  pub fits : 11 * length (written kept given) ≤ length buf
+-- `given` is in the buffer
+pub record Kept (buf out : List ℕ) (at : ℕ) (given : List Entry) : Type 0 where
+  pub place : at ≡ 11 * length given
+  pub fits : 11 * length given ≤ length buf
   pub same : length out ≡ length buf
-  pub buffer : out ≡ planWords (written kept given) ++ drop (11 * length (written kept given)) buf
+  pub buffer : out ≡ planWords given ++ drop (11 * length given) buf
+
+-- entries that are only counted all go to the buffer's first words
+abbrev pub Written : (kept : Bool) → (buf out : List ℕ) → (at : ℕ) → List Entry → Type 0
+Written true buf out at given = Kept buf out at given
+Written false buf out at given = (at ≡ 0) × ((length out ≡ length buf) × (11 ≤ length buf))
 
 -- steps that are under way: `given` is given, the rest is to come
-pub record Going (kept : Bool) (k : Coming) (buf : List ℕ) (b₀ : Bank) (out : List ℕ) (p : Planner) (b : Bank) (at : ℕ) : Type 0 where
+pub record Going (kept : Bool) (k : Coming) (buf ws out ws′ : List ℕ) (p : Planner) (n : Counts) (at : ℕ) : Type 0 where
   pub given : List Entry
   pub whole : k .entries ≡ given ++ coming p .entries
   pub left : k .left ≡ coming p .left
   pub end : k .end ≡ coming p .end
   pub counts : p .counts ≡ countedAll zeroCounts given
-  pub bank : b ≡ bankAfter b₀ given
+  pub same : n ≡ p .counts
+  pub bank : ws′ ≡ wordsAfter ws given
   pub written : Written kept buf out at given
   pub sound : Sound p
 
@@ -86,10 +87,10 @@ unfolding planWords
 words-append [] fs = refl
 words-append (e ∷ es) fs = ap (λ (l : List ℕ). entryWords e ++ l) (words-append es fs) ∙ sym (append-assoc (entryWords e) (planWords es) (planWords fs))
 
-bank-append : (es fs : List Entry) (b : Bank) → bankAfter b (es ++ fs) ≡ bankAfter (bankAfter b es) fs
-unfolding bankAfter
-bank-append [] fs b = refl
-bank-append (e ∷ es) fs b = bank-append es fs (bankStep b e)
+bank-append : (es fs : List Entry) (ws : List ℕ) → wordsAfter ws (es ++ fs) ≡ wordsAfter (wordsAfter ws es) fs
+unfolding wordsAfter
+bank-append [] fs ws = refl
+bank-append (e ∷ es) fs ws = bank-append es fs (wordsStep ws e)
 
 counts-append : (es fs : List Entry) (n : Counts) → countedAll n (es ++ fs) ≡ countedAll (countedAll n es) fs
 unfolding countedAll
@@ -104,9 +105,9 @@ one-more : (es : List Entry) (e : Entry) (k : Counts) → countedAll k (es ++ e 
 unfolding countedAll
 one-more es e k = counts-append es (e ∷ []) k
 
-bank-more : (es : List Entry) (e : Entry) (x : Bank) → bankAfter x (es ++ e ∷ []) ≡ bankStep (bankAfter x es) e
-unfolding bankAfter
-bank-more es e x = bank-append es (e ∷ []) x
+bank-more : (es : List Entry) (e : Entry) (ws : List ℕ) → wordsAfter ws (es ++ e ∷ []) ≡ wordsStep (wordsAfter ws es) e
+unfolding wordsAfter
+bank-more es e ws = bank-append es (e ∷ []) ws
 
 -- the buffer with eleven more words
 paste-more : (xs ws buf : List ℕ) (a : ℕ) → length ws ≡ 11 → length xs ≡ a → paste (xs ++ drop a buf) a ws 11 ≡ (xs ++ ws) ++ drop (a + 11) buf
@@ -117,29 +118,29 @@ paste-more xs ws buf a w l =
 
 -- ---- steps start, go on, and end
 
-pub going-start : (kept : Bool) (p : Planner) → Sound p → p .counts ≡ zeroCounts → (buf : List ℕ) (b : Bank) → Going kept (coming p) buf b buf p b 0
-unfolding countedAll bankAfter planWords
-going-start kept p h n buf b =
-    record { given = []; whole = refl; left = refl; end = refl; counts = n; bank = refl; written = by kept; sound = h }
+pub going-start : (kept : Bool) (p : Planner) → Sound p → p .counts ≡ zeroCounts → (buf ws : List ℕ) → (kept ≡ false → 11 ≤ length buf) → Going kept (coming p) buf ws buf ws p (p .counts) 0
+unfolding countedAll wordsAfter planWords
+going-start kept p h n buf ws room =
+    record { given = []; whole = refl; left = refl; end = refl; counts = n; same = refl; bank = refl; written = by kept room; sound = h }
   where
-    by : (kept : Bool) → Written kept buf buf 0 []
-    by true = record { place = refl; fits = omega arith; same = refl; buffer = refl }
-    by false = record { place = refl; fits = omega arith; same = refl; buffer = refl }
+    by : (kept : Bool) → (kept ≡ false → 11 ≤ length buf) → Written kept buf buf 0 []
+    by true r = record { place = refl; fits = omega arith; same = refl; buffer = refl }
+    by false r = (refl, (refl, r refl))
 
--- a place in the buffer
-pub at-in : (kept : Bool) (buf out : List ℕ) (at : ℕ) (gs : List Entry) → Written kept buf out at gs → at ≤ length out
-at-in kept buf out at gs w = let l = w .place in let h = w .fits in let m = w .same in omega arith
+-- the buffer keeps its length, and the place lies in it
+module _ {k : Coming} {buf ws out ws′ : List ℕ} {p : Planner} {n : Counts} {at : ℕ} where
+  pub still-long : (kept : Bool) → Going kept k buf ws out ws′ p n at → length out ≡ length buf
+  still-long true g = g .written .same
+  still-long false g = g .written .1 .0
 
--- room for an entry that is kept
-pub room-for : (kept : Bool) (words at : ℕ) → at ≤ words → shortOf kept words at ≡ false → kept ≡ true → at + 11 ≤ words
-room-for true words at h t k = let l = ltb-false (words - at) 11 t in omega arith
-room-for false words at h t k = let z : _≡_ {A = ℕ} 0 1 = cc in absurd (omega arith)
+  pub at-in : (kept : Bool) → Going kept k buf ws out ws′ p n at → at ≤ length out
+  at-in true g = let l = g .written .place in let h = g .written .fits in let m = g .written .same in omega arith
+  at-in false g = let l = g .written .0 in omega arith
 
 -- one more entry in the buffer
-pub written-more : (kept : Bool) (buf out : List ℕ) (at : ℕ) (gs : List Entry) (e : Entry) → Written kept buf out at gs → (kept ≡ true → at + 11 ≤ length out)
-    → Written kept buf (keptOf kept out at e) (cond kept (at + 11) at) (gs ++ e ∷ [])
-written-more true buf out at gs e w h =
-    let room = h refl in
+written-more : (kept : Bool) (buf out : List ℕ) (at : ℕ) (gs : List Entry) (e : Entry) → Written kept buf out at gs → at + 11 ≤ length out
+    → Written kept buf (paste out at (entryWords e) 11) (at + strideOf kept) (gs ++ e ∷ [])
+written-more true buf out at gs e w room =
     let l = w .place in
     let m = w .same in
     let len : length (gs ++ e ∷ []) ≡ length gs + 1 = length-append gs (e ∷ []) in
@@ -154,30 +155,36 @@ written-more true buf out at gs e w h =
           ∙ ap (λ (x : List ℕ). x ++ drop (at + 11) buf) (sym (more-words gs e))
           ∙ ap (λ (n : ℕ). planWords (gs ++ e ∷ []) ++ drop n buf) d;
     }
-written-more false buf out at gs e w h = record { place = w .place; fits = w .fits; same = w .same; buffer = w .buffer }
+written-more false buf out at gs e w room = let l = w .0 in (omega arith, (length-paste out at (entryWords e) 11 room (omega (arith, eleven e)) ∙ w .1 .0, w .1 .1))
 
-module _ (kept : Bool) (k : Coming) (buf : List ℕ) (b₀ : Bank) (out : List ℕ) (p : Planner) (b : Bank) (at : ℕ) (g : Going kept k buf b₀ out p b at) (s : Step) (i : StepGives p s) where
+module _ (kept : Bool) (k : Coming) (buf ws out ws′ : List ℕ) (p : Planner) (n : Counts) (at : ℕ) (g : Going kept k buf ws out ws′ p n at) (s : Step) (i : StepGives p s) where
   -- one more entry
-  module _ (e : Entry) (a : s .given ≡ given.Entry e) where
-    pub going-more : (b′ : Bank) (out′ : List ℕ) (at′ : ℕ) → b′ ≡ bankStep b e → out′ ≡ keptOf kept out at e → at′ ≡ cond kept (at + 11) at → (kept ≡ true → at + 11 ≤ length out)
-        → Going kept k buf b₀ out′ (s .planner) b′ at′
-    going-more b′ out′ at′ j o l h =
-        let gs = g .given in
-        let es-is = gave-entry p s i e a in
-        let rest-is = gave-rest p s i e a in
-        record {
-          given = gs ++ e ∷ [];
-          whole = g .whole ∙ ap (λ (es : List Entry). gs ++ es) es-is ∙ sym (append-assoc gs (e ∷ []) (drop 1 (coming p .entries))) ∙ ap (λ (c : Coming). (gs ++ e ∷ []) ++ c .entries) (sym rest-is);
-          left = g .left ∙ ap (λ (c : Coming). c .left) (sym rest-is);
-          end = g .end ∙ ap (λ (c : Coming). c .end) (sym rest-is);
-          counts = i .counts ∙ ap (λ (es : List Entry). countsNext es (p .counts)) es-is ∙ ap (λ (m : Counts). countedOf m e) (g .counts) ∙ sym (one-more gs e zeroCounts);
-          bank = j ∙ ap (λ (x : Bank). bankStep x e) (g .bank) ∙ sym (bank-more gs e b₀);
-          written = rw (o, l) (written-more kept buf out at gs e (g .written) h);
-          sound = i .sound;
-        }
+  pub going-more : (e : Entry) → s .given ≡ given.Entry e → (out′ ws″ : List ℕ) (n′ : Counts) (at′ : ℕ) → out′ ≡ paste out at (entryWords e) 11 → ws″ ≡ wordsStep ws′ e → n′ ≡ countedOf n e → at′ ≡ at + strideOf kept → at + 11 ≤ length out
+      → Going kept k buf ws out′ ws″ (s .planner) n′ at′
+  going-more e a out′ ws″ n′ at′ o j m l room =
+      let gs = g .given in
+      let es-is = gave-entry p s i e a in
+      let rest-is = gave-rest p s i e a in
+      let counts-is : s .planner .counts ≡ countedOf (p .counts) e = i .counts ∙ ap (λ (es : List Entry). countsNext es (p .counts)) es-is in
+      record {
+        given = gs ++ e ∷ [];
+        whole = g .whole ∙ ap (λ (es : List Entry). gs ++ es) es-is ∙ sym (append-assoc gs (e ∷ []) (drop 1 (coming p .entries))) ∙ ap (λ (c : Coming). (gs ++ e ∷ []) ++ c .entries) (sym rest-is);
+        left = g .left ∙ ap (λ (c : Coming). c .left) (sym rest-is);
+        end = g .end ∙ ap (λ (c : Coming). c .end) (sym rest-is);
+        counts = counts-is ∙ ap (λ (x : Counts). countedOf x e) (g .counts) ∙ sym (one-more gs e zeroCounts);
+        same = m ∙ ap (λ (x : Counts). countedOf x e) (g .same) ∙ sym counts-is;
+        bank = j ∙ ap (λ (x : List ℕ). wordsStep x e) (g .bank) ∙ sym (bank-more gs e ws);
+        written = rw (o, l) (written-more kept buf out at gs e (g .written) room);
+        sound = i .sound;
+      }
+
+-- where no entry is to come, the end has the counts so far
+counts-at-end : (p : Planner) → coming p .entries ≡ [] → coming p .end ≡ endWith (p .counts) (coming p .end .verdict)
+unfolding coming countedAll
+counts-at-end p none = ap (λ (es : List Entry). endWith (countedAll (p .counts) es) (comingCourse (p .course) .verdict)) none
 
 -- all entries are written
-module _ (plan : Plan) (buf : List ℕ) (b₀ : Bank) (out : List ℕ) (p : Planner) (b : Bank) (at : ℕ) (g : Going true (comingOf plan) buf b₀ out p b at) where
+module _ (plan : Plan) (buf ws out ws′ : List ℕ) (p : Planner) (n : Counts) (at : ℕ) (g : Going true (comingOf plan) buf ws out ws′ p n at) where
   module _ (none : coming p .entries ≡ []) where
     all-given : plan .entries ≡ g .given
     all-given = g .whole ∙ ap (λ (es : List Entry). g .given ++ es) none ∙ append-nil (g .given)
@@ -189,21 +196,21 @@ module _ (plan : Plan) (buf : List ℕ) (b₀ : Bank) (out : List ℕ) (p : Plan
         let h = g .written .fits in
         rw (le-ltb (length buf / 11) (length (plan .entries)) (omega arith))
 
-    end-end : coming p .end ≡ runOf plan buf b₀ .end
-    unfolding runOf
+    end-end : coming p .end ≡ runWords plan buf ws .end
+    unfolding runWords
     end-end = sym (g .end) ∙ ap endOf (sym uncut)
 
-    end-bank : bankAfter b (coming p .left) ≡ runOf plan buf b₀ .bank
-    unfolding runOf bankOf
+    end-bank : wordsAfter ws′ (coming p .left) ≡ runWords plan buf ws .bank
+    unfolding runWords
     end-bank =
-        ap (λ (x : Bank). bankAfter x (coming p .left)) (g .bank)
-        ∙ sym (bank-append (g .given) (coming p .left) b₀)
-        ∙ ap (λ (es : List Entry). bankAfter b₀ (es ++ coming p .left)) (sym all-given)
-        ∙ ap (λ (es : List Entry). bankAfter b₀ (plan .entries ++ es)) (sym (g .left))
-        ∙ ap (λ (x : Plan). bankOf x b₀) (sym uncut)
+        ap (λ (x : List ℕ). wordsAfter x (coming p .left)) (g .bank)
+        ∙ sym (bank-append (g .given) (coming p .left) ws)
+        ∙ ap (λ (es : List Entry). wordsAfter ws (es ++ coming p .left)) (sym all-given)
+        ∙ ap (λ (es : List Entry). wordsAfter ws (plan .entries ++ es)) (sym (g .left))
+        ∙ ap (λ (x : Plan). wordsAfter ws (x .entries ++ x .left)) (sym uncut)
 
-    end-buffer : out ≡ runOf plan buf b₀ .buffer
-    unfolding runOf
+    end-buffer : out ≡ runWords plan buf ws .buffer
+    unfolding runWords
     end-buffer =
         g .written .buffer ∙ ap (λ (es : List Entry). planWords es ++ drop (11 * length es) buf) (sym all-given) ∙ ap (λ (x : Plan). planWords (x .entries) ++ drop (11 * length (x .entries)) buf) (sym uncut)
 
@@ -226,34 +233,40 @@ module _ (plan : Plan) (buf : List ℕ) (b₀ : Bank) (out : List ℕ) (p : Plan
         longer : (l : List Entry) → length (x ∷ l) ≡ suc (length l)
         longer l = refl
 
-    full-end : endWith (p .counts) verdict.Full ≡ runOf plan buf b₀ .end
-    unfolding runOf
+    full-end : endWith (p .counts) verdict.Full ≡ runWords plan buf ws .end
+    unfolding runWords
     full-end = ap (λ (n : Counts). endWith n verdict.Full) (g .counts) ∙ end-of (record { entries = g .given; left = []; verdict = verdict.Full }) ∙ ap endOf (sym cut)
 
-    full-bank : b ≡ runOf plan buf b₀ .bank
-    unfolding runOf bankOf
-    full-bank = g .bank ∙ ap (bankAfter b₀) (sym (append-nil (g .given))) ∙ ap (λ (y : Plan). bankOf y b₀) (sym cut)
+    full-bank : ws′ ≡ runWords plan buf ws .bank
+    unfolding runWords
+    full-bank = g .bank ∙ ap (wordsAfter ws) (sym (append-nil (g .given))) ∙ ap (λ (y : Plan). wordsAfter ws (y .entries ++ y .left)) (sym cut)
 
-    full-buffer : out ≡ runOf plan buf b₀ .buffer
-    unfolding runOf
+    full-buffer : out ≡ runWords plan buf ws .buffer
+    unfolding runWords
     full-buffer = g .written .buffer ∙ ap (λ (y : Plan). planWords (y .entries) ++ drop (11 * length (y .entries)) buf) (sym cut)
 
 -- the steps are over where no entry comes next, or where there is no room
-module _ (k : Coming) (buf : List ℕ) (b₀ : Bank) (out : List ℕ) (p : Planner) (b : Bank) (at : ℕ) (s : Step) (i : StepGives p s) where
-  pub steps-end : (kept : Bool) → Going kept k buf b₀ out p b at → (d : Given) → s .given ≡ d → (r : Ran) → answerIn d ≡ answer.End (r .end) → r .bank ≡ bankAfter b (leftIn d) → StepsTo kept k buf b₀ out r
-  steps-end true g d j r a n =
-      let t = gave-end p s i d j (r .end) a in
-      λ plan e.
-      let h = subst (λ (c : Coming). Going true c buf b₀ out p b at) e g in
-      (t .1 .0 ∙ end-end plan buf b₀ out p b at h (t .0), (n ∙ ap (bankAfter b) (sym (t .1 .1)) ∙ end-bank plan buf b₀ out p b at h (t .0), end-buffer plan buf b₀ out p b at h (t .0)))
-  steps-end false g d j r a n = gave-end p s i d j (r .end) a .1 .0 ∙ sym (g .end)
+module _ (k : Coming) (buf ws out ws′ : List ℕ) (p : Planner) (n : Counts) (at : ℕ) (s : Step) (i : StepGives p s) where
+  pub steps-end : (kept : Bool) → Going kept k buf ws out ws′ p n at → (d : Given) → s .given ≡ d → (x : End) → answerIn d ≡ answer.End x → (ws″ : List ℕ) → ws″ ≡ wordsAfter ws′ (leftIn d) → (r : End) → r ≡ endWith n (x .verdict)
+      → StepsTo kept k buf ws out ws″ r
+  steps-end kept g d j x a ws″ b r e = by kept g
+    where
+      t : (coming p .entries ≡ []) × ((x ≡ coming p .end) × (coming p .left ≡ leftIn d))
+      t = gave-end p s i d j x a
 
-  pub steps-full : (kept : Bool) → Going kept k buf b₀ out p b at → (e : Entry) → s .given ≡ given.Entry e → shortOf kept (length out) at ≡ true → (r : Ran) → r .end ≡ endWith (p .counts) verdict.Full → r .bank ≡ b
-      → StepsTo kept k buf b₀ out r
-  steps-full true g e j t r a n =
+      r-is : n ≡ p .counts → r ≡ coming p .end
+      r-is m = e ∙ ap (λ (y : Counts). endWith y (x .verdict)) m ∙ ap (λ (y : End). endWith (p .counts) (y .verdict)) (t .1 .0) ∙ sym (counts-at-end p (t .0))
+
+      by : (kept : Bool) → Going kept k buf ws out ws′ p n at → StepsTo kept k buf ws out ws″ r
+      by true g = λ plan q.
+          let h = subst (λ (c : Coming). Going true c buf ws out ws′ p n at) q g in
+          (r-is (g .same) ∙ end-end plan buf ws out ws′ p n at h (t .0), (b ∙ ap (wordsAfter ws′) (sym (t .1 .1)) ∙ end-bank plan buf ws out ws′ p n at h (t .0), end-buffer plan buf ws out ws′ p n at h (t .0)))
+      by false g = r-is (g .same) ∙ sym (g .end)
+
+  pub steps-full : (kept : Bool) → Going kept k buf ws out ws′ p n at → (e : Entry) → s .given ≡ given.Entry e → length out - at < 11 → (r : End) → r ≡ endWith n verdict.Full → StepsTo kept k buf ws out ws′ r
+  steps-full true g e j l r a =
       let some = gave-entry p s i e j in
-      let l = ltb-true (length out - at) 11 t in
       λ plan q.
-      let h = subst (λ (c : Coming). Going true c buf b₀ out p b at) q g in
-      (a ∙ full-end plan buf b₀ out p b at h e _ some l, (n ∙ full-bank plan buf b₀ out p b at h e _ some l, full-buffer plan buf b₀ out p b at h e _ some l))
-  steps-full false g e j t r a n = let z : _≡_ {A = ℕ} 0 1 = cc in absurd (omega arith)
+      let h = subst (λ (c : Coming). Going true c buf ws out ws′ p n at) q g in
+      (a ∙ ap (λ (y : Counts). endWith y verdict.Full) (g .same) ∙ full-end plan buf ws out ws′ p n at h e _ some l, (full-bank plan buf ws out ws′ p n at h e _ some l, full-buffer plan buf ws out ws′ p n at h e _ some l))
+  steps-full false g e j l r a = let w = g .written in absurd (omega (arith, w .0, w .1 .0, w .1 .1))

@@ -73,7 +73,7 @@ module _ (w w′ : Course) (n : Counts) (e : Entry) (i : comingCourse w ≡ cons
       record {
         answer = sym (given-answer (comingCourse w) n e (comingCourse w′) i);
         left = given-left;
-        narrow = a .narrow;
+        ranges = a;
         rest = given-rest;
         counts = given-counts;
         sound = record { course = s; counts = counted-countable n e (h .counts) (omega arith) (a .line); few = omega arith };
@@ -102,7 +102,7 @@ module _ (w : Course) (n : Counts) (left : List Entry) (v : Verdict) (i : coming
       record {
         answer = a ∙ stopped-answer;
         left = l ∙ stopped-left;
-        narrow = t;
+        ranges = t;
         rest = stopped-rest;
         counts = stopped-counts;
         sound = record { course = tt; counts = h .counts; few = omega arith };

@@ -10,6 +10,5 @@ pub use start::fresh;
 pub use types::Course;
 pub use types::Given;
 pub use types::Planner;
-pub use types::Ran;
 pub use types::Step;
 pub use types::Stepped;

@@ -37,9 +37,3 @@ pub struct Stepped {
     pub bank: Bank,
     pub answer: Answer,
 }
-
-// How a whole run ended.
-pub struct Ran {
-    pub bank: Bank,
-    pub end: End,
-}

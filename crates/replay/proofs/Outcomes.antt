@@ -11,17 +11,16 @@ use lib.ListN.{length, take, drop, set, length-take}
 use lib.Seq.{take-at, take-suc-set, length-take-le}
 use Rattle.object.specs.declared.types.Verdict.the-variants as verdict
 use Rattle.object.specs.Layout.{read}
-use Rattle.tile.specs.declared.bank.Bank.{Bank}
 use Rattle.plan.specs.declared.types.End.{End}
 use Rattle.plan.specs.Check.{requestAt}
 use Rattle.plan.specs.Out.{Plan}
 use Rattle.plan.specs.Request as plan
-use Rattle.plan.specs.Run.{planWords, endOf, cutAt, runOf}
+use Rattle.plan.specs.Run.{planWords, endOf, cutAt}
 use Rattle.plan.specs.Whole.{planOf}
 use Rattle.request.specs.declared.types.Request.{Request}
 use Rattle.request.specs.Host.{withBytes}
 use Rattle.words.specs.Eleven.{eleven-each}
-use Rattle.words.specs.Host.{bankNumbers}
+use Rattle.words.specs.Host.{runWords}
 use Rattle.digest.specs.Fnv.{digestOf}
 use Rattle.replay.specs.declared.outcome.Outcome.{Outcome}
 use Rattle.replay.specs.Outcome.{outcomeOf, wordsIn}
@@ -34,25 +33,25 @@ cut-few : (n : ℕ) (p : Plan) → 11 * length (cutAt n p .entries) ≤ n
 unfolding cutAt
 cut-few n p = few _ n p refl
 
-module _ (p : Plan) (buf : List ℕ) (b : Bank) (end : End) (e : end ≡ runOf p buf b .end) where
+module _ (p : Plan) (buf ws : List ℕ) (end : End) (e : end ≡ runWords p buf ws .end) where
   count : end .entries ≡ length (cutAt (length buf) p .entries)
-  unfolding runOf endOf
+  unfolding runWords endOf
   count = ap (λ (x : End). x .entries) e
 
   pub room : 11 * end .entries ≤ length buf
   room = omega (arith, count, cut-few (length buf) p)
 
-  standing : (out : List ℕ) → out ≡ runOf p buf b .buffer → take (11 * end .entries) out ≡ planWords (cutAt (length buf) p .entries)
-  unfolding runOf
+  standing : (out : List ℕ) → out ≡ runWords p buf ws .buffer → take (11 * end .entries) out ≡ planWords (cutAt (length buf) p .entries)
+  unfolding runWords
   standing out o =
       let es = cutAt (length buf) p .entries in
       ap (λ (n : ℕ). take (11 * n) out) count ∙ ap (take (11 * length es)) o ∙ take-at (planWords es) (drop (11 * length es) buf) (11 * length es) (eleven-each es)
 
-  pub outcome-is : (out : List ℕ) (after : Bank) (d g : ℕ) → out ≡ runOf p buf b .buffer → after ≡ runOf p buf b .bank → d ≡ digestOf (take (11 * end .entries) out) → g ≡ digestOf (bankNumbers after)
-      → record { end = end; entries = d; bank = g } ≡ outcomeOf p (length buf) b
-  unfolding outcomeOf runOf
+  pub outcome-is : (out after : List ℕ) (d g : ℕ) → out ≡ runWords p buf ws .buffer → after ≡ runWords p buf ws .bank → d ≡ digestOf (take (11 * end .entries) out) → g ≡ digestOf after
+      → record { end = end; entries = d; bank = g } ≡ outcomeOf p (length buf) ws
+  unfolding outcomeOf runWords
   outcome-is out after d g o a i j =
-      λ n. record { end = e n; entries = (i ∙ ap digestOf (standing out o)) n; bank = (j ∙ ap (λ (x : Bank). digestOf (bankNumbers x)) a) n }
+      λ n. record { end = e n; entries = (i ∙ ap digestOf (standing out o)) n; bank = (j ∙ ap digestOf a) n }
 
 -- ---- the words of a file
 
@@ -65,7 +64,7 @@ next-word bs numbers k x l t e = rw (add-one, take-suc-set numbers k x l, t, e)
 pub part : (m most k : ℕ) (xs : List ℕ) → m ≡ min most k → most ≤ length xs → length (take m xs) ≡ m
 part m most k xs e h = length-take-le m xs (omega arith)
 
-pub record-is : (bs buf : List ℕ) (q : Request) (b : Bank) (n m j k : ℕ) (r : Outcome) → ((n : ℕ) → withBytes (take n bs) q ≡ requestAt n bs) → n ≡ j → m ≡ min 2816 k → 2816 ≡ length buf
+pub record-is : (bs buf : List ℕ) (q : Request) (b : List ℕ) (n m j k : ℕ) (r : Outcome) → ((n : ℕ) → withBytes (take n bs) q ≡ requestAt n bs) → n ≡ j → m ≡ min 2816 k → 2816 ≡ length buf
     → r ≡ outcomeOf (planOf (withBytes (take n bs) q)) (length (take m buf)) b → r ≡ outcomeOf (planOf (requestAt j bs)) (min 2816 k) b
 record-is bs buf q b n m j k r f e i l o =
     let t = part m 2816 k buf i (omega arith) in

@@ -3,18 +3,17 @@
 use mathlib.Core.List.{List, [], _∷_, _++_}
 use Prim.Native.Nat.{ℕ, zero, suc, _*_}
 use Rattle.object.specs.Layout.{read}
-use Rattle.tile.specs.declared.bank.Bank.{Bank}
 use Rattle.plan.specs.Out.{Plan}
-use Rattle.plan.specs.Run.{bankOf, planWords, endOf, cutAt}
-use Rattle.words.specs.Host.{bankNumbers}
+use Rattle.plan.specs.Run.{planWords, endOf, cutAt}
+use Rattle.words.specs.Host.{wordsAfter}
 use Rattle.digest.specs.Fnv.{digestOf}
 use Rattle.replay.specs.declared.outcome.Outcome.{Outcome}
 
 -- of a plan in a buffer of so many words
-unfoldable pub outcomeOf : Plan → (room : ℕ) → Bank → Outcome
-outcomeOf p room b =
+unfoldable pub outcomeOf : Plan → (room : ℕ) → (bank : List ℕ) → Outcome
+outcomeOf p room ws =
     let cut = cutAt room p in
-    record { end = endOf cut; entries = digestOf (planWords (cut .entries)); bank = digestOf (bankNumbers (bankOf cut b)) }
+    record { end = endOf cut; entries = digestOf (planWords (cut .entries)); bank = digestOf (wordsAfter ws (cut .entries ++ cut .left)) }
 
 -- the first n words of bytes
 unfoldable pub wordsIn : ℕ → List ℕ → List ℕ

@@ -5,16 +5,15 @@ ghost use lib.ListN.{length};
 ghost use Rattle.object.specs.Layout.{Held, read};
 ghost use Rattle.plan.specs.Check.{requestAt};
 ghost use Rattle.plan.specs.Whole.{planOf};
-ghost use Rattle.words.specs.Host.{bankFrom};
 ghost use Rattle.replay.specs.Outcome.{wordsIn, outcomeOf};
 use crate::outcome::Outcome;
 use crate::outcome::run_into;
 use object::field_from;
-use tile::Bank;
 
-pub(crate) fn bank_of(bytes: &[u8]) -> Bank
+// A bank's words, eight bytes each.
+pub(crate) fn bank_of(bytes: &[u8]) -> [u64; 136]
     requires { ⌜ length (now bytes) ≡ 1088 ⌝ }
-    ensures { λ r. ⌜ r ≡ bankFrom (wordsIn 136 (now (bytes .entry))) ⌝ }
+    ensures { λ r. ⌜ r ≡ wordsIn 136 (now (bytes .entry)) ⌝ }
 {
     let mut numbers = [0u64; 136];
     let mut k: usize = 0;
@@ -22,7 +21,7 @@ pub(crate) fn bank_of(bytes: &[u8]) -> Bank
         numbers[k] = field_from(bytes, 8 * k, 8);
         k = k + 1;
     }
-    words::bank_from(&numbers)
+    numbers
 }
 
 // The number in `n` bytes, or `most` where that is less.
@@ -42,7 +41,7 @@ fn buffer() -> [u64; 2816]
 }
 
 // A case, how many of the object's bytes the planner gets, and the words of its buffer.
-pub(crate) fn record_outcome(bytes: &[u8], bank: Bank) -> Outcome
+pub(crate) fn record_outcome(bytes: &[u8], bank: [u64; 136]) -> Outcome
     requires { ⌜ length (now bytes) ≡ 64 ⌝ }
     ensures { λ r. ⌜ r ≡ outcomeOf (planOf (requestAt (min 40 (read (now (bytes .entry)) 61 1)) (now (bytes .entry)))) (min 2816 (read (now (bytes .entry)) 62 2)) bank ⌝ }
 {
@@ -50,5 +49,6 @@ pub(crate) fn record_outcome(bytes: &[u8], bank: Bank) -> Outcome
     let room = at_most(bytes, 62, 2, 2816);
     let q = request::from_bytes(bytes);
     let mut plan = buffer();
-    run_into(&bytes[..count], q, bank, &mut plan[..room])
+    let mut words = bank;
+    run_into(&bytes[..count], q, &mut words, &mut plan[..room])
 }

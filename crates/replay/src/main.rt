@@ -6,7 +6,6 @@ use files::bank_of;
 use files::record_outcome;
 use libc::STDOUT_FILENO;
 use outcome::Outcome;
-use tile::Bank;
 
 // More records than the list has.
 const RECORDS: u32 = 4096;
@@ -29,7 +28,7 @@ fn print(o: Outcome) {
     io::write_all(STDOUT_FILENO, b"\n");
 }
 
-fn replay(fd: i32, bank: Bank) {
+fn replay(fd: i32, bank: [u64; 136]) {
     let mut turns: u32 = 0;
     while turns < RECORDS {
         turns = turns + 1;

@@ -28,7 +28,7 @@ pub struct Bank {
 }
 
 // A tile set anew: its bounds, width and height stay.
-pub fn replaced(old: Tile, tile: Tile) -> Tile
+fn replaced(old: Tile, tile: Tile) -> Tile
     ensures { λ r. ⌜ r ≡ replacedBy old tile ⌝ }
 {
     Tile {
@@ -65,14 +65,14 @@ pub fn with_tile(bank: Bank, index: usize, tile: Tile) -> Bank
 }
 
 // Texels from one bound to the other, both counted, and 1 where they are the wrong way round.
-fn texels(low: u16, high: u16) -> u16
+pub fn texels(low: u16, high: u16) -> u16
     ensures { λ r. ⌜ r ≡ extent low high ⌝ }
 {
     if low < high { (high - low) / 4 + 1 } else { 1 }
 }
 
 // A tile with other bounds, and the width and height that follow.
-pub fn resized(old: Tile, uls: u16, ult: u16, lrs: u16, lrt: u16) -> Tile
+fn resized(old: Tile, uls: u16, ult: u16, lrs: u16, lrt: u16) -> Tile
     ensures { λ r. ⌜ r ≡ resizedTo old uls ult lrs lrt ⌝ }
 {
     let mut tile = old;

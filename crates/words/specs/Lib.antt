@@ -2,4 +2,3 @@
 pub mod Counts
 pub mod Eleven
 pub mod Host
-pub mod Tiles

@@ -1,24 +1,118 @@
-// One entry: its eleven words, and the bank after it.
+// One entry: its eleven words, and a bank after it.
 ghost use mathlib.Core.Path.{_≡_};
-ghost use Prim.Native.Nat.{_+_, _≤_};
-ghost use lib.ListN.{length};
-ghost use lib.Seq.{paste};
 ghost use Rattle.plan.specs.Sound.{Narrow};
 ghost use Rattle.plan.specs.Run.{descriptor, bankStep, entryWords};
-ghost use Rattle.words.specs.Tiles.{changedBy, tileStep};
-use crate::buffer::store;
 use plan::Entry;
 use signed::word_of;
 use tile::Bank;
 use tile::Tile;
-use tile::replaced;
-use tile::resized;
+use tile::with_tile;
+use tile::with_tile_size;
 
-// Writes an entry's words: the kind, its numbers, signed ones modulo 2^64, then zeros. A table, so longer than other functions; a store for each kind, since one
-// for all would first gather eleven words from each.
-pub fn store_entry(plan: &mut [u64], at: usize, e: Entry)
-    requires { ⌜ at + 11 ≤ length (now plan) ⌝ }
-    ensures { λ _. ⌜ now (plan .exit) ≡ paste (now (plan .entry)) at (entryWords e) 11 ⌝ }
+// The words of each kind: its number, what it gives, signed numbers modulo 2^64, then zeros.
+
+pub(crate) fn image_words(fmt: u64, siz: u64, width: u64, address: u64) -> [u64; 11]
+    ensures { λ r. ⌜ r ≡ entryWords (Entry.Image fmt siz width address) ⌝ }
+{
+    [1, fmt, siz, width, address, 0, 0, 0, 0, 0, 0]
+}
+
+pub(crate) fn tile_words(
+    index: u64,
+    fmt: u64,
+    siz: u64,
+    line: u64,
+    tmem: u64,
+    palette: u64,
+    cms: u64,
+    cmt: u64,
+    masks: u64,
+    maskt: u64,
+) -> [u64; 11]
+    ensures { λ r. ⌜ r ≡ entryWords (Entry.Tile index fmt siz line tmem palette cms cmt masks maskt) ⌝ }
+{
+    [
+        2,
+        index,
+        fmt,
+        siz,
+        line,
+        tmem,
+        palette,
+        cms,
+        cmt,
+        masks,
+        maskt,
+    ]
+}
+
+pub(crate) fn size_words(index: u64, uls: u64, ult: u64, lrs: u64, lrt: u64) -> [u64; 11]
+    ensures { λ r. ⌜ r ≡ entryWords (Entry.Size index uls ult lrs lrt) ⌝ }
+{
+    [3, index, uls, ult, lrs, lrt, 0, 0, 0, 0, 0]
+}
+
+pub(crate) fn load_words(
+    index: u64,
+    uls: u64,
+    ult: u64,
+    lrs: u64,
+    lrt: u64,
+    words: u64,
+    rows: u64,
+    stride: u64,
+    start: u64,
+    length: u64,
+) -> [u64; 11]
+    ensures { λ r. ⌜ r ≡ entryWords (Entry.Load index uls ult lrs lrt words rows stride start length) ⌝ }
+{
+    [
+        4,
+        index,
+        uls,
+        ult,
+        lrs,
+        lrt,
+        words,
+        rows,
+        stride,
+        start,
+        length,
+    ]
+}
+
+pub(crate) fn rect_words(
+    tile: u64,
+    ulx: u64,
+    uly: u64,
+    lrx: u64,
+    lry: u64,
+    uls: i64,
+    ult: i64,
+    dsdx: i64,
+    dtdy: i64,
+    row: u64,
+) -> [u64; 11]
+    ensures { λ r. ⌜ r ≡ entryWords (Entry.Rect tile ulx uly lrx lry uls ult dsdx dtdy row) ⌝ }
+{
+    [
+        5,
+        tile,
+        ulx,
+        uly,
+        lrx,
+        lry,
+        word_of(uls),
+        word_of(ult),
+        word_of(dsdx),
+        word_of(dtdy),
+        row,
+    ]
+}
+
+// An entry's eleven words.
+pub fn entry_words(e: Entry) -> [u64; 11]
+    ensures { λ r. ⌜ r ≡ entryWords e ⌝ }
 {
     match e {
         Entry::Image {
@@ -26,10 +120,7 @@ pub fn store_entry(plan: &mut [u64], at: usize, e: Entry)
             siz,
             width,
             address,
-        } => {
-            let words = [1, fmt, siz, width, address, 0, 0, 0, 0, 0, 0];
-            store(&mut *plan, at, words);
-        }
+        } => image_words(fmt, siz, width, address),
         Entry::Tile {
             index,
             fmt,
@@ -41,32 +132,14 @@ pub fn store_entry(plan: &mut [u64], at: usize, e: Entry)
             cmt,
             masks,
             maskt,
-        } => {
-            let words = [
-                2,
-                index,
-                fmt,
-                siz,
-                line,
-                tmem,
-                palette,
-                cms,
-                cmt,
-                masks,
-                maskt,
-            ];
-            store(&mut *plan, at, words);
-        }
+        } => tile_words(index, fmt, siz, line, tmem, palette, cms, cmt, masks, maskt),
         Entry::Size {
             index,
             uls,
             ult,
             lrs,
             lrt,
-        } => {
-            let words = [3, index, uls, ult, lrs, lrt, 0, 0, 0, 0, 0];
-            store(&mut *plan, at, words);
-        }
+        } => size_words(index, uls, ult, lrs, lrt),
         Entry::Load {
             index,
             uls,
@@ -78,22 +151,18 @@ pub fn store_entry(plan: &mut [u64], at: usize, e: Entry)
             stride,
             start,
             length,
-        } => {
-            let words = [
-                4,
-                index,
-                uls,
-                ult,
-                lrs,
-                lrt,
-                words,
-                rows,
-                stride,
-                start,
-                length,
-            ];
-            store(&mut *plan, at, words);
-        }
+        } => load_words(
+            index,
+            uls,
+            ult,
+            lrs,
+            lrt,
+            words,
+            rows,
+            stride,
+            start,
+            length,
+        ),
         Entry::Rect {
             tile,
             ulx,
@@ -105,32 +174,8 @@ pub fn store_entry(plan: &mut [u64], at: usize, e: Entry)
             dsdx,
             dtdy,
             row,
-        } => {
-            let words = [
-                5,
-                tile,
-                ulx,
-                uly,
-                lrx,
-                lry,
-                word_of(uls),
-                word_of(ult),
-                word_of(dsdx),
-                word_of(dtdy),
-                row,
-            ];
-            store(&mut *plan, at, words);
-        }
+        } => rect_words(tile, ulx, uly, lrx, lry, uls, ult, dsdx, dtdy, row),
     }
-}
-
-// An entry's eleven words.
-pub fn entry_words(e: Entry) -> [u64; 11]
-    ensures { λ r. ⌜ r ≡ entryWords e ⌝ }
-{
-    let mut words = [0u64; 11];
-    store_entry(&mut words, 0, e);
-    words
 }
 
 // The tile that an entry names. Its bounds are not read: setting a tile keeps them.
@@ -168,26 +213,14 @@ fn described(
     }
 }
 
-// The tile that an entry changes; 8 for none.
-pub fn changed(e: Entry) -> usize
-    ensures { λ r. ⌜ r ≡ changedBy e ⌝ }
-{
-    match e {
-        Entry::Tile { index, .. } => index as usize,
-        Entry::Size { index, .. } => index as usize,
-        Entry::Load { index, .. } => index as usize,
-        Entry::Image { .. } => 8,
-        Entry::Rect { .. } => 8,
-    }
-}
-
-// That tile once the entry is given; a load sets its tile's size itself.
-pub fn tile_after(old: Tile, e: Entry) -> Tile
+// The bank once an entry is given; a load sets its tile's size itself.
+pub fn bank_after(bank: Bank, e: Entry) -> Bank
     requires { ⌜ Narrow e ⌝ }
-    ensures { λ r. ⌜ r ≡ tileStep old e ⌝ }
+    ensures { λ r. ⌜ r ≡ bankStep bank e ⌝ }
 {
     match e {
         Entry::Tile {
+            index,
             fmt,
             siz,
             line,
@@ -197,7 +230,6 @@ pub fn tile_after(old: Tile, e: Entry) -> Tile
             cmt,
             masks,
             maskt,
-            ..
         } => {
             let tile = described(
                 fmt as u8,
@@ -210,37 +242,38 @@ pub fn tile_after(old: Tile, e: Entry) -> Tile
                 masks as u8,
                 maskt as u8,
             );
-            replaced(old, tile)
+            with_tile(bank, index as usize, tile)
         }
         Entry::Size {
+            index,
             uls,
             ult,
             lrs,
             lrt,
-            ..
-        } => resized(old, uls as u16, ult as u16, lrs as u16, lrt as u16),
+        } => with_tile_size(
+            bank,
+            index as usize,
+            uls as u16,
+            ult as u16,
+            lrs as u16,
+            lrt as u16,
+        ),
         Entry::Load {
+            index,
             uls,
             ult,
             lrs,
             lrt,
             ..
-        } => resized(old, uls as u16, ult as u16, lrs as u16, lrt as u16), // no entry of its own
-        Entry::Image { .. } => old,
-        Entry::Rect { .. } => old,
+        } => with_tile_size(
+            bank,
+            index as usize,
+            uls as u16,
+            ult as u16,
+            lrs as u16,
+            lrt as u16,
+        ),
+        Entry::Image { .. } => bank,
+        Entry::Rect { .. } => bank,
     }
-}
-
-// The bank once an entry is given.
-pub fn bank_after(bank: Bank, e: Entry) -> Bank
-    requires { ⌜ Narrow e ⌝ }
-    ensures { λ r. ⌜ r ≡ bankStep bank e ⌝ }
-{
-    let i = changed(e);
-    if 8 <= i {
-        return bank;
-    }
-    let mut next = bank;
-    next.tiles[i] = tile_after(bank.tiles[i], e);
-    next
 }

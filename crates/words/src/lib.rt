@@ -1,17 +1,15 @@
-// What an entry does to the bank and the counts, and its eleven words; bank and end as words for hosts.
+// What an entry does to the plan's words, the bank and the counts; an end as words for hosts.
 mod buffer;
 mod count;
 mod entry;
+mod giving;
 mod host;
 
 pub use count::Counts;
 pub use count::counted;
 pub use count::end_of;
 pub use entry::bank_after;
-pub use entry::changed;
 pub use entry::entry_words;
-pub use entry::store_entry;
-pub use entry::tile_after;
-pub use host::bank_from;
-pub use host::bank_into;
+pub use giving::give;
+pub use giving::set_words;
 pub use host::end_into;

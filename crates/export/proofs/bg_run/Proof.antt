@@ -16,14 +16,8 @@ returns-3 c = let a = c .before .before .before .before .before .before .before 
 from-words-requires : tie.Need-from-words-requires
 from-words-requires c κs = search needs
 
-bank-from-requires : tie.Need-bank-from-requires
-bank-from-requires c κs = search needs
-
 run-requires : tie.Need-run-requires
 run-requires c κs = search needs
-
-bank-into-requires : tie.Need-bank-into-requires
-bank-into-requires c κs = search needs
 
 end-into-requires : tie.Need-end-into-requires
 end-into-requires c κs = search needs
@@ -39,16 +33,12 @@ same-length-3 c = search needs
 
 returns-4 : tie.Need-returns-4
 returns-4 c =
-    let i = c .before .before .before .before .before .before .before in
-    let r = i .before .before .before .before .before in
-    let b = r .before .before in
-    let q = b .before .before in
+    let r = c .before .before .before .before .before .before .before .before in
+    let q = r .before .before .before in
     let a = q .before .before .before .before .before .before .before .before .before .args in
     ran (a .object .now) (a .request .now) (a .bank .now) (a .plan .now) (a .end .now)
     (q .from-words .result)
     (q .from-words .ensures)
-    (b .bank-from .result)
-    (b .bank-from .ensures)
     _
     _
     _
@@ -57,7 +47,6 @@ returns-4 c =
     (q .before .before .if2 .left)
     (q .before .if3 .left)
     (r .run .ensures)
-    (i .bank-into .ensures)
     (c .before .before .end-into .ensures)
 
 pub bg-run-spec : {M : Type 1} → statement M
@@ -68,9 +57,7 @@ bg-run-spec =
     returns-2
     returns-3
     from-words-requires
-    bank-from-requires
     run-requires
-    bank-into-requires
     end-into-requires
     same-length
     same-length-2

@@ -44,12 +44,6 @@ enum-told-6 c = search needs
 enum-told-7 : tie.Need-enum-told-7
 enum-told-7 c = search needs
 
-moved-on-requires : tie.Need-moved-on-requires
-moved-on-requires c κs = c .before .before .before .pre
-
-enum-told-8 : tie.Need-enum-told-8
-enum-told-8 c = search needs
-
 moved-requires : tie.Need-moved-requires
 moved-requires c κs = c .before .before .before .pre
 
@@ -75,10 +69,7 @@ returns-6 c =
     chose-reaches (s .args .p) choice.Last h (rest-none (s .args .p) (s .pre) (h .meets))
 
 returns-7 : tie.Need-returns-7
-returns-7 c = chose-reaches (c .before .before .before .before .args .p) choice.On (rw (c .before .enum-told7 .given .1) at (c .before .before .before .chosen .ensures)) (c .moved-on .ensures)
-
-returns-8 : tie.Need-returns-8
-returns-8 c = chose-reaches (c .before .before .before .before .args .p) choice.Move (rw (c .before .enum-told8 .given .1) at (c .before .before .before .chosen .ensures)) (c .moved .ensures)
+returns-7 c = chose-reaches (c .before .before .before .before .args .p) choice.Move (rw (c .before .enum-told7 .given .1) at (c .before .before .before .chosen .ensures)) (c .moved .ensures)
 
 pub after-part-spec : {M : Type 1} → statement M
 after-part-spec =
@@ -97,8 +88,6 @@ after-part-spec =
     rest-requires
     enum-told-6
     enum-told-7
-    moved-on-requires
-    enum-told-8
     moved-requires
     returns
     returns-2
@@ -106,5 +95,4 @@ after-part-spec =
     returns-4
     returns-5
     returns-6
-    returns-7
-    returns-8)
+    returns-7)

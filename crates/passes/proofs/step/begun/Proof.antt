@@ -6,37 +6,37 @@ use Rattle.passes.specs.Given.{due-sound}
 use Rattle.passes.proofs.step.begun.Statement.{statement}
 use Rattle.passes.proofs.step.begun.Tie as tie
 
-enum-known-turn : tie.Need-enum-known-turn
-enum-known-turn c = search needs
-
 enum-told : tie.Need-enum-told
 enum-told c = search needs
 
-enum-known-turn-2 : tie.Need-enum-known-turn-2
-enum-known-turn-2 c = search needs
+enum-told-2 : tie.Need-enum-told-2
+enum-told-2 c = search needs
+
+enum-known-turn : tie.Need-enum-known-turn
+enum-known-turn c = search needs
 
 due-walk-requires : tie.Need-due-walk-requires
-due-walk-requires c κs = rw (c .before .turn2 .given .1) at (c .before .before .before .pre)
+due-walk-requires c κs = rw (c .before .turn .given .1) at (c .before .before .before .pre)
 
 next-pass-requires : tie.Need-next-pass-requires
-next-pass-requires c κs = let s = c .before .before .before .before in rw (c .due-walk .ensures) (due-sound (s .args .p) (c .before .before .turn2 .given .0 .0) (rw (c .before .before .turn2 .given .1) at (s .pre)))
+next-pass-requires c κs = let s = c .before .before .before .before in rw (c .due-walk .ensures) (due-sound (s .args .p) (c .before .before .turn .given .0 .0) (rw (c .before .before .turn .given .1) at (s .pre)))
 
 returns : tie.Need-returns
-returns c = rw (c .before .turn .given .1) ((rw (c .before .turn .given .1) at (c .before .before .before .pre)) .pass, (refl, omega arith))
+returns c = rw (c .enum-told .given .1) ((rw (c .enum-told .given .1) at (c .before .before .pre)) .pass, (refl, omega arith))
 
 returns-2 : tie.Need-returns-2
-returns-2 c = rw (c .enum-told .given .1) (rw (c .enum-told .given .1) at (c .before .before .pre), (refl, omega arith))
+returns-2 c = rw (c .enum-told2 .given .1) (rw (c .enum-told2 .given .1) at (c .before .before .pre), (refl, omega arith))
 
 returns-3 : tie.Need-returns-3
-returns-3 c = rw (c .before .before .before .turn2 .given .1) (rw (c .before .due-walk .ensures) at (c .next-pass .ensures))
+returns-3 c = rw (c .before .before .before .turn .given .1) (rw (c .before .due-walk .ensures) at (c .next-pass .ensures))
 
 pub begun-spec : {M : Type 1} → statement M
 begun-spec =
     tie.close
     (tie.spec
-    enum-known-turn
     enum-told
-    enum-known-turn-2
+    enum-told-2
+    enum-known-turn
     due-walk-requires
     next-pass-requires
     returns

@@ -1,11 +1,10 @@
 -- `replay::files::bank_of` meets its contract. The invariant: the first k words are those of the file. Assumes nothing.
-use mathlib.Core.Path.{_≡_, refl, sym, ap, _∙_}
+use mathlib.Core.Path.{_≡_, refl, sym, _∙_}
 use Prim.Native.Nat.{_≤_, _-_}
 use native.Mathlib.Omega.{arith}
 use borrow.Author.Needs.{needs}
 use lib.ListN.{length, take, length-set}
 use lib.Seq.{take-all}
-use Rattle.words.specs.Host.{bankFrom}
 use Rattle.replay.specs.Outcome.{wordsIn}
 use Rattle.replay.proofs.Outcomes.{next-word}
 use Rattle.replay.proofs.files.bank_of.Statement.{statement}
@@ -46,19 +45,12 @@ loop-again c =
     let same = l .inv .1 in
     (omega arith, length-set (l .numbers) (l .k) (c .field-from .result) ∙ same, next-word (c .before .before .before .before .args .bytes .now) (l .numbers) (l .k) (c .field-from .result) (omega arith) (l .inv .2) (c .field-from .ensures .is))
 
-slice-aggregate-bank-from : tie.Need-slice-aggregate-bank-from Inv-loop μ-loop
-slice-aggregate-bank-from c = sym (c .before .before .loop .inv .1)
-
-bank-from-requires : tie.Need-bank-from-requires Inv-loop μ-loop
-bank-from-requires c κs = c .before .before .loop .inv .1
-
 returns : tie.Need-returns Inv-loop μ-loop
 returns c =
-    let l = c .before .before .before .loop in
-    let t = c .before .before .loop-test .left in
+    let l = c .before .loop in
+    let t = c .loop-test .left in
     let k : l .k ≡ 136 = omega (arith, l .inv .0) in
-    let all : l .numbers ≡ wordsIn 136 _ = sym (take-all 136 (l .numbers) (omega (arith, l .inv .1))) ∙ rw k at (l .inv .2) in
-    c .bank-from .ensures ∙ ap bankFrom all
+    sym (take-all 136 (l .numbers) (omega (arith, l .inv .1))) ∙ rw k at (l .inv .2)
 
 pub bank-of-spec : {M : Type 1} → statement M
 bank-of-spec =
@@ -74,6 +66,4 @@ bank-of-spec =
     add-k
     loop-less
     loop-again
-    slice-aggregate-bank-from
-    bank-from-requires
     returns)

@@ -24,13 +24,16 @@ slice-aggregate-run-into c =
     let n = c .before .before .before .before .at-most in
     sym (part (n .result) 40 _ (s .args .bytes .now) (n .ensures) (omega (arith, s .pre)))
 
+slice-aggregate-run-into-2 : tie.Need-slice-aggregate-run-into-2
+slice-aggregate-run-into-2 c = search needs
+
 array-borrow-prefix-plan : tie.Need-array-borrow-prefix-plan
 array-borrow-prefix-plan c = search needs
 
-slice-aggregate-run-into-2 : tie.Need-slice-aggregate-run-into-2
-slice-aggregate-run-into-2 c =
-    let m = c .before .before .before .before .at-most2 in
-    let b = c .before .before .buffer in
+slice-aggregate-run-into-3 : tie.Need-slice-aggregate-run-into-3
+slice-aggregate-run-into-3 c =
+    let m = c .before .before .before .before .before .at-most2 in
+    let b = c .before .before .before .buffer in
     sym (part (m .result) 2816 _ (b .result) (m .ensures) (omega (arith, b .ensures)))
 
 run-into-requires : tie.Need-run-into-requires
@@ -38,12 +41,12 @@ run-into-requires c κs = search needs
 
 returns : tie.Need-returns
 returns c =
-    let s = c .before .before .before .before .before .before .before .before .before in
-    let n = c .before .before .before .before .before .before .before .at-most in
-    let m = c .before .before .before .before .before .before .at-most2 in
-    let b = c .before .before .before .before .buffer in
-    let q = c .before .before .before .before .before .from-bytes in
-    record-is (s .args .bytes .now) (b .result) (q .result) (s .args .bank) (n .result) (m .result) _ _ _ (q .ensures) (n .ensures) (m .ensures) (b .ensures) (c .before .run-into .ensures)
+    let s = c .before .before .before .before .before .before .before .before .before .before .before in
+    let n = c .before .before .before .before .before .before .before .before .before .at-most in
+    let m = c .before .before .before .before .before .before .before .before .at-most2 in
+    let b = c .before .before .before .before .before .before .buffer in
+    let q = c .before .before .before .before .before .before .before .from-bytes in
+    record-is (s .args .bytes .now) (b .result) (q .result) _ (n .result) (m .result) _ _ _ (q .ensures) (n .ensures) (m .ensures) (b .ensures) (c .before .before .run-into .ensures)
 
 pub record-outcome-spec : {M : Type 1} → statement M
 record-outcome-spec =
@@ -54,7 +57,8 @@ record-outcome-spec =
     from-bytes-requires
     buffer-requires
     slice-aggregate-run-into
-    array-borrow-prefix-plan
     slice-aggregate-run-into-2
+    array-borrow-prefix-plan
+    slice-aggregate-run-into-3
     run-into-requires
     returns)

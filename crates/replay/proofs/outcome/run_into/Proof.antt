@@ -12,35 +12,38 @@ run-requires c κs = search needs
 
 mul-n : tie.Need-mul-n
 mul-n c =
-    let r = c .before .before .before .run in
-    let h = room _ _ _ (r .result .end) (r .ensures .end) in
-    record { fits = omega (arith, c .before .before .before .before .before .before .before .good .1 .1 .1 .0 .0) }
+    let r = c .before .before .before .before .run in
+    let h = room _ _ _ (r .result) (r .ensures .end) in
+    record { fits = omega (arith, c .before .before .before .before .before .before .before .before .before .before .good .1 .1 .1 .0 .0) }
 
 slice-reshare-prefix-digest : tie.Need-slice-reshare-prefix-digest
 slice-reshare-prefix-digest c =
-    let r = c .before .before .before .run in
-    let h = room _ _ _ (r .result .end) (r .ensures .end) in
-    omega (arith, r .kept .1 .1 .1 .1 .1 .1 .0)
+    let r = c .before .before .before .before .run in
+    let h = room _ _ _ (r .result) (r .ensures .end) in
+    omega (arith, c .before .plan .given)
 
 slice-aggregate-digest : tie.Need-slice-aggregate-digest
 slice-aggregate-digest c =
-    let r = c .before .before .before .before .run in
-    let h = room _ _ _ (r .result .end) (r .ensures .end) in
-    sym (length-take-le _ _ (omega (arith, r .kept .1 .1 .1 .1 .1 .1 .0)))
+    let r = c .before .before .before .before .before .run in
+    let h = room _ _ _ (r .result) (r .ensures .end) in
+    sym (length-take-le _ _ (omega (arith, c .before .before .plan .given)))
 
 digest-requires : tie.Need-digest-requires
 digest-requires c κs = search needs
 
-bank-digest-requires : tie.Need-bank-digest-requires
-bank-digest-requires c κs = search needs
+digest-requires-2 : tie.Need-digest-requires-2
+digest-requires-2 c κs = search needs
 
 same-length : tie.Need-same-length
 same-length c = search needs
 
+same-length-2 : tie.Need-same-length-2
+same-length-2 c = search needs
+
 returns : tie.Need-returns
 returns c =
-    let r = c .before .before .before .before .before .before .before .run in
-    outcome-is _ _ _ (r .result .end) (r .ensures .end) _ _ _ _ (r .ensures .buffer) (r .ensures .bank) (c .before .before .digest .ensures) (c .bank-digest .ensures)
+    let r = c .before .before .before .before .before .before .before .before .run in
+    outcome-is _ _ _ (r .result) (r .ensures .end) _ _ _ _ (r .ensures .buffer) (r .ensures .bank) (c .before .before .digest .ensures) (c .digest2 .ensures)
 
 pub run-into-spec : {M : Type 1} → statement M
 run-into-spec =
@@ -51,6 +54,7 @@ run-into-spec =
     slice-reshare-prefix-digest
     slice-aggregate-digest
     digest-requires
-    bank-digest-requires
+    digest-requires-2
     same-length
+    same-length-2
     returns)

@@ -14,13 +14,13 @@ enum-known-given : tie.Need-enum-known-given
 enum-known-given c = search needs
 
 bank-after-requires : tie.Need-bank-after-requires
-bank-after-requires c κs = rw (c .before .given .given .1) at (c .before .before .before .before .step .ensures .narrow)
+bank-after-requires c κs = (rw (c .before .given .given .1) at (c .before .before .before .before .step .ensures .ranges)) .narrow
 
 enum-known-given-2 : tie.Need-enum-known-given-2
 enum-known-given-2 c = search needs
 
 bank-after-requires-2 : tie.Need-bank-after-requires-2
-bank-after-requires-2 c κs = rw (c .before .given2 .given .1) at (c .before .before .before .before .step .ensures .narrow)
+bank-after-requires-2 c κs = rw (c .before .given2 .given .1) at (c .before .before .before .before .step .ensures .ranges)
 
 enum-known-given-3 : tie.Need-enum-known-given-3
 enum-known-given-3 c = search needs
