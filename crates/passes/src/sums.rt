@@ -9,6 +9,7 @@ ghost use Rattle.plan.specs.Load.{sourceAddress};
 ghost use Rattle.plan.specs.Scaled.{advance as advanceOf};
 ghost use Rattle.passes.specs.Coming.{sumOut, movedOut};
 use crate::rows::difference;
+use crate::rows::less;
 use crate::rows::plus;
 use crate::rows::times;
 use crate::types::Moved;
@@ -58,4 +59,22 @@ pub fn advance(z: Scaled, source: Source, rows: i64) -> Moved
     };
     let remain = plus(remain, z.source_rows);
     Moved::To(Source { pointer, remain })
+}
+
+// The same after a whole strip, whose rows are not negative: where the image goes on, one sum and one test.
+pub fn forward(z: Scaled, source: Source) -> Moved
+    requires { ⌜ SoundScaled z ⌝ }
+    requires { ⌜ Within 44 (source .remain) ⌝ }
+    ensures { λ r. ⌜ movedOut r ≡ advanceOf z source (pos (z .«image_rows»)) ⌝ }
+{
+    let remain = less(source.remain, z.image_rows);
+    if 0 < remain {
+        let on = z.image_rows * z.stride;
+        if 0xffff_ffff_ffff_ffff - source.pointer < on {
+            return Moved::Overflow;
+        }
+        let pointer = source.pointer + on;
+        return Moved::To(Source { pointer, remain });
+    }
+    advance(z, source, z.image_rows as i64)
 }

@@ -15,6 +15,7 @@ use crate::rows::plus;
 use crate::rows::sum;
 use crate::rows::times;
 use crate::sums::advance;
+use crate::sums::forward;
 use crate::types::Begun;
 use crate::types::Moved;
 use crate::types::Piece;
@@ -95,15 +96,22 @@ fn draw(w: Walk, p: Place) -> Begun
     Begun::At(Piece::Start, q)
 }
 
-// The next pass that draws, from a walk with lines left.
+// The next pass that draws, from a walk with lines left. Only the first strip may have fewer rows than the others, or less than none.
 fn running(walk: Walk, p: Place) -> Begun
     requires { ⌜ Runs (p .scaled) walk ⌝ }
     ensures { λ r. ⌜ Begins (planOut (passesOf (p .scaled) walk)) (14 * up (walk .«frame_remain»)) r ⌝ }
 {
-    let mut w = walk;
+    if lines_due(walk.count) != 0 {
+        return draw(walk, p);
+    }
+    let source = walk.source;
+    let Moved::To(next) = advance(p.scaled, source, walk.slice_rows) else {
+        return Begun::Ended(Verdict::Address);
+    };
+    let mut w = next_walk(p.scaled, walk.frame_y, walk.frame_remain, walk.count, next);
     while lines_due(w.count) == 0 {
         let source = w.source;
-        let Moved::To(next) = advance(p.scaled, source, w.slice_rows) else {
+        let Moved::To(next) = forward(p.scaled, source) else {
             return Begun::Ended(Verdict::Address);
         };
         w = next_walk(p.scaled, w.frame_y, w.frame_remain, w.count, next);

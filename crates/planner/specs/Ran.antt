@@ -20,7 +20,7 @@ use Rattle.plan.specs.Whole.{planOf}
 use Rattle.plan.specs.Run.{entryWords, planWords, endOf, cutAt, runOf}
 use Rattle.plan.specs.Steps.{Coming, comingOf}
 use Rattle.words.specs.declared.count.Counts.{Counts}
-use Rattle.words.specs.Counts.{zeroCounts, countedOf, countedAll, endWith, end-of}
+use Rattle.words.specs.Counts.{zeroCounts, countedOf, countedAll, endWith, counted-entries, end-of}
 use Rattle.words.specs.Eleven.{eleven, eleven-each}
 use Rattle.words.specs.Host.{bankNumbers, wordsStep, wordsAfter, runWords, run-end, run-bank, run-buffer}
 use Rattle.planner.specs.declared.types.Planner.{Planner}
@@ -46,10 +46,6 @@ ran-is bytes opcode scissor mode address buf out ws′ r b n h =
 -- the words from one entry to the next: none where entries are only counted
 abbrev pub strideOf : Bool → ℕ
 strideOf kept = cond kept 11 0
-
-pub stride-small : (kept : Bool) → strideOf kept ≤ 11
-stride-small true = omega arith
-stride-small false = omega arith
 
 -- where steps lead: a run's answer if the entries are kept, else the end
 abbrev pub StepsTo : (kept : Bool) → Coming → (buf ws out ws′ : List ℕ) → End → Type 0
@@ -118,14 +114,17 @@ paste-more xs ws buf a w l =
 
 -- ---- steps start, go on, and end
 
-pub going-start : (kept : Bool) (p : Planner) → Sound p → p .counts ≡ zeroCounts → (buf ws : List ℕ) → (kept ≡ false → 11 ≤ length buf) → Going kept (coming p) buf ws buf ws p (p .counts) 0
+pub going-start : (kept : Bool) (p : Planner) → Sound p → p .counts ≡ zeroCounts → (buf ws : List ℕ) → (kept ≡ false → 11 ≤ length buf) → (stride : ℕ) → Going kept (coming p) buf ws buf ws p (p .counts) (p .counts .entries * stride)
 unfolding countedAll wordsAfter planWords
-going-start kept p h n buf ws room =
+going-start kept p h n buf ws room stride =
     record { given = []; whole = refl; left = refl; end = refl; counts = n; same = refl; bank = refl; written = by kept room; sound = h }
   where
-    by : (kept : Bool) → (kept ≡ false → 11 ≤ length buf) → Written kept buf buf 0 []
-    by true r = record { place = refl; fits = omega arith; same = refl; buffer = refl }
-    by false r = (refl, (refl, r refl))
+    first : p .counts .entries * stride ≡ 0
+    first = let z : 0 * stride ≡ 0 = omega arith in ap (λ (m : Counts). m .entries * stride) n ∙ z
+
+    by : (kept : Bool) → (kept ≡ false → 11 ≤ length buf) → Written kept buf buf (p .counts .entries * stride) []
+    by true r = record { place = first; fits = omega arith; same = refl; buffer = refl }
+    by false r = (first, (refl, r refl))
 
 -- the buffer keeps its length, and the place lies in it
 module _ {k : Coming} {buf ws out ws′ : List ℕ} {p : Planner} {n : Counts} {at : ℕ} where
@@ -136,6 +135,11 @@ module _ {k : Coming} {buf ws out ws′ : List ℕ} {p : Planner} {n : Counts} {
   pub at-in : (kept : Bool) → Going kept k buf ws out ws′ p n at → at ≤ length out
   at-in true g = let l = g .written .place in let h = g .written .fits in let m = g .written .same in omega arith
   at-in false g = let l = g .written .0 in omega arith
+
+-- the place of the entry after one that is counted
+pub next-place : (kept : Bool) (stride : ℕ) → stride ≡ strideOf kept → (n : Counts) (e : Entry) → countedOf n e .entries * stride ≡ n .entries * stride + strideOf kept
+next-place true stride s n e = rw s (omega (arith, counted-entries n e))
+next-place false stride s n e = rw s (omega arith)
 
 -- one more entry in the buffer
 written-more : (kept : Bool) (buf out : List ℕ) (at : ℕ) (gs : List Entry) (e : Entry) → Written kept buf out at gs → at + 11 ≤ length out

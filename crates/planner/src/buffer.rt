@@ -31,17 +31,16 @@ fn steps(start: Planner, bank: &mut [u64], kept: bool, plan: &mut [u64]) -> End
     let stride = stride(kept);
     let mut p = start;
     let mut n = start.counts;
-    let mut at: usize = 0;
     loop {
         let s = p.step();
         let given = s.given;
         match given {
             Given::Entry(entry) => {
+                let at = n.entries as usize * stride;
                 if plan.len() - at < 11 {
                     return words::end_of(n, Verdict::Full);
                 }
                 n = words::give(&mut *plan, at, &mut *bank, n, entry);
-                at = at + stride;
                 p = s.planner;
             }
             Given::Refused(size, end) => {

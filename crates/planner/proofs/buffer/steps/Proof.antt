@@ -1,34 +1,40 @@
 -- `planner::buffer::steps` meets its contract: what is given and what is to come make up the plan, until the end or a full buffer. Assumes nothing.
 use mathlib.Core.Path.{_≡_, refl, ap, _∙_}
-use Prim.Native.Nat.{ℕ, _+_}
+use Prim.Native.Nat.{_*_}
 use native.Mathlib.Omega.{arith}
 use borrow.Author.Needs.{needs}
 use lib.ListN.{length}
+use Rattle.words.specs.declared.count.Counts.{Counts}
 use Rattle.words.specs.Host.{wordsAfter}
 use Rattle.planner.specs.declared.types.Given.the-variants as given
 use Rattle.planner.specs.Coming.{coming}
 use Rattle.planner.specs.Step.{gave-fewer}
-use Rattle.planner.specs.Ran.{Going, strideOf, stride-small, going-start, going-more, at-in, still-long, steps-end, steps-full}
+use Rattle.planner.specs.Ran.{Going, strideOf, next-place, going-start, going-more, at-in, still-long, steps-end, steps-full}
 use Rattle.planner.proofs.buffer.steps.Statement.{statement}
 use Rattle.planner.proofs.buffer.steps.Tie as tie
 
 abbrev Inv-loop : tie.InvT-loop
-Inv-loop bank₀ kept plan₀ stride p₀ n₀ at₀ bank plan p n at = (Going kept (coming p₀) plan₀ bank₀ plan bank p n at) × (stride ≡ strideOf kept) × (length bank ≡ length bank₀)
+Inv-loop bank₀ kept plan₀ stride p₀ n₀ bank plan p n = (Going kept (coming p₀) plan₀ bank₀ plan bank p n (n .entries * stride)) × (stride ≡ strideOf kept) × (length bank ≡ length bank₀)
 
 abbrev μ-loop : tie.MeasureT-loop
-μ-loop bank₀ kept plan₀ stride p₀ n₀ at₀ bank plan p n at = length (coming p .entries)
+μ-loop bank₀ kept plan₀ stride p₀ n₀ bank plan p n = length (coming p .entries)
 
 stride-requires : tie.Need-stride-requires Inv-loop μ-loop
 stride-requires c κs = search needs
 
 loop-holds : tie.Need-loop-holds Inv-loop μ-loop
-loop-holds c = (going-start _ _ (c .before .before .before .before .pre .0) (c .before .before .before .before .pre .1) _ _ (c .before .before .before .before .pre .2), c .before .stride .ensures, refl)
+loop-holds c = (going-start _ _ (c .before .before .before .before .pre .0) (c .before .before .before .before .pre .1) _ _ (c .before .before .before .before .pre .2) _, c .before .stride .ensures, refl)
 
 step-requires : tie.Need-step-requires Inv-loop μ-loop
 step-requires c κs = c .loop .inv .0 .sound
 
 enum-known-given : tie.Need-enum-known-given Inv-loop μ-loop
 enum-known-given c = search needs
+
+mul-at : tie.Need-mul-at Inv-loop μ-loop
+mul-at c =
+    let l = c .before .before .before .before .loop in
+    omega (arith, at-in _ (l .inv .0), still-long _ (l .inv .0), c .before .before .before .before .before .before .before .before .before .good .1 .1 .1 .0)
 
 sub-if1 : tie.Need-sub-if1 Inv-loop μ-loop
 sub-if1 c = let l = c .before .before .before .before .loop in at-in _ (l .inv .0)
@@ -55,11 +61,6 @@ give-requires c κs =
     let w = at-in _ (l .inv .0) in
     (omega (arith, w, c .before .before .if1 .left), (rw (l .inv .0 .same) (l .inv .0 .sound .counts), rw (c .before .before .before .before .given .given .1) at (s .ensures .ranges)))
 
-add-at : tie.Need-add-at Inv-loop μ-loop
-add-at c =
-    let l = c .before .before .before .before .before .before .before .before .before .before .before .before .loop in
-    omega (arith, c .before .before .before .before .before .before .before .if1 .left, at-in _ (l .inv .0), still-long _ (l .inv .0), l .inv .1, stride-small (c .before .before .before .before .before .before .before .before .before .before .before .before .before .before .before .before .before .args .kept), c .before .before .before .before .before .before .before .before .before .before .before .before .before .before .before .before .before .good .1 .1 .1 .0)
-
 loop-less : tie.Need-loop-less Inv-loop μ-loop
 loop-less c =
     let l = c .before .before .before .before .before .before .before .before .before .before .before .before .before .loop in
@@ -72,7 +73,7 @@ loop-again c =
     let s = c .before .before .before .before .before .before .before .before .before .before .before .before .step in
     let g = c .before .before .before .before .before .give in
     let w = at-in _ (l .inv .0) in
-    (going-more _ _ _ _ _ _ _ _ _ (l .inv .0) (s .result) (s .ensures) _ (c .before .before .before .before .before .before .before .before .before .before .given .given .1) _ _ _ _ (g .ensures .0) (g .ensures .1) (g .ensures .2) (ap (λ (m : ℕ). l .at + m) (l .inv .1)) (omega (arith, w, c .before .before .before .before .before .before .before .before .if1 .left)), l .inv .1, c .before .before .bank .given ∙ l .inv .2)
+    (going-more _ _ _ _ _ _ _ _ _ (l .inv .0) (s .result) (s .ensures) _ (c .before .before .before .before .before .before .before .before .before .before .given .given .1) _ _ _ _ (g .ensures .0) (g .ensures .1) (g .ensures .2) (ap (λ (m : Counts). m .entries * c .before .before .before .before .before .before .before .before .before .before .before .before .before .before .before .stride .result) (g .ensures .2) ∙ next-place (c .before .before .before .before .before .before .before .before .before .before .before .before .before .before .before .before .before .before .args .kept) _ (l .inv .1) _ _) (omega (arith, w, c .before .before .before .before .before .before .before .before .if1 .left)), l .inv .1, c .before .before .bank .given ∙ l .inv .2)
 
 enum-known-given-2 : tie.Need-enum-known-given-2 Inv-loop μ-loop
 enum-known-given-2 c = search needs
@@ -125,13 +126,13 @@ steps-spec =
     loop-holds
     step-requires
     enum-known-given
+    mul-at
     sub-if1
     end-of-requires
     same-length
     same-length-2
     returns
     give-requires
-    add-at
     loop-less
     loop-again
     enum-known-given-2
