@@ -1,8 +1,10 @@
 -- Every entry that the copy walk gives is small: its rows, its line, and what a tile keeps of it.
 -- Assumes nothing.
+use mathlib.Core.Path.{_≡_, refl}
 use mathlib.Core.Bool.{Bool, true, false, cond}
 use Prim.Native.Nat.{ℕ, _≤_}
 use native.Mathlib.Omega.{arith}
+use lib.Dec.{eqb}
 use Rattle.tile.specs.declared.load.LoadRequest.{LoadRequest}
 use Rattle.tile.specs.declared.load.LoadRequest.the-variants as request
 use Rattle.tile.specs.Load.{rowsIn}
@@ -35,12 +37,13 @@ record AreaIn (a : Area) : Type 0 where
 area-in : (p : Place) → AreaIn (areaOf p)
 area-in p = record { uls = omega arith; ult = omega arith; lrs = omega arith; lrt = omega arith }
 
-tile-in : (p : Place) (index cms masks : ℕ) → SoundCopy (p .copy) → cms ≤ 255 → masks ≤ 255 → EntryIn (tileEntry p index cms masks)
-tile-in p index cms masks s h k =
+tile-in : (p : Place) (index cms masks : ℕ) → SoundCopy (p .copy) → cms ≤ 255 → masks ≤ 255 → index ≡ cond (eqb index 7) 7 0 → EntryIn (tileEntry p index cms masks)
+tile-in p index cms masks s h k i =
     record {
       rows = omega arith;
       line = omega arith;
       narrow = (s .fmt, (omega arith, (omega arith, (omega arith, (s .palette, (h, (omega arith, (k, omega arith))))))));
+      names = i;
     }
 
 chosen : (t : Bool) (n : ℕ) → n ≤ 255 → cond t n 0 ≤ 255
@@ -50,22 +53,22 @@ chosen false n h = omega arith
 tile7-in : (t : Bool) (p : Place) → SoundCopy (p .copy) → nextIn (tile7Next t p)
 unfolding tile7Next
 tile7-in true p s = tt
-tile7-in false p s = tile-in p 7 0 0 s (omega arith) (omega arith)
+tile7-in false p s = tile-in p 7 0 0 s (omega arith) (omega arith) refl
 
 tile0-in : (p : Place) → SoundCopy (p .copy) → EntryIn (tile0Entry p)
-tile0-in p s = tile-in p 0 _ _ s (chosen (p .copy .flip) 1 (omega arith)) (chosen (p .copy .flip) 15 (omega arith))
+tile0-in p s = tile-in p 0 _ _ s (chosen (p .copy .flip) 1 (omega arith)) (chosen (p .copy .flip) 15 (omega arith)) refl
 
 size-in : (p : Place) → EntryIn (sizeEntry p)
-size-in p = record { rows = omega arith; line = omega arith; narrow = (omega arith, (omega arith, (omega arith, omega arith))) }
+size-in p = record { rows = omega arith; line = omega arith; narrow = (omega arith, (omega arith, (omega arith, omega arith))); names = refl }
 
 load-in : (q : LoadRequest) (a : Area) (p : Place) → rowsIn q ≤ 16384 → AreaIn a → nextIn (loadNext q a p)
 unfolding loadNext
-load-in (request.Load words rows stride start length) a p h k = record { rows = h; line = omega arith; narrow = (k .uls, (k .ult, (k .lrs, k .lrt))) }
+load-in (request.Load words rows stride start length) a p h k = record { rows = h; line = omega arith; narrow = (k .uls, (k .ult, (k .lrs, k .lrt))); names = refl }
 load-in request.Overflow a p h k = (k .uls, (k .ult, (k .lrs, k .lrt)))
 
 due-in : (d : Due) (p : Place) → EntryIn (dueEntry d p)
-due-in due.Image p = record { rows = omega arith; line = omega arith; narrow = tt }
-due-in due.Rect p = record { rows = omega arith; line = omega arith; narrow = tt }
+due-in due.Image p = record { rows = omega arith; line = omega arith; narrow = tt; names = tt }
+due-in due.Rect p = record { rows = omega arith; line = omega arith; narrow = tt; names = tt }
 
 strip-in : (t u : Bool) (d : Due) (p : Place) → nextIn (stripNext t u d p)
 unfolding stripNext

@@ -24,7 +24,7 @@ use Rattle.plan.specs.Out.Out.{go, stop}
 use Rattle.plan.specs.Laws.{more-nil}
 use Rattle.plan.specs.Load.{loadOut, loadTile, sourceAddress}
 use Rattle.plan.specs.Next.{cons, ended}
-use Rattle.plan.specs.Sound.{SoundScaled, SoundFirst, entryRows, entryLine, EntryIn, Narrow}
+use Rattle.plan.specs.Sound.{SoundScaled, SoundFirst, entryRows, entryLine, EntryIn, Narrow, Names}
 use Rattle.tile.specs.declared.load.LoadRequest.{LoadRequest}
 use Rattle.tile.specs.declared.load.LoadRequest.the-variants as request
 use Rattle.tile.specs.Load.{requestOf, rowsIn}
@@ -48,7 +48,7 @@ use Rattle.passes.specs.Enter.{ended-as}
 
 -- the rows and the line of each entry are few, and what a tile keeps of it is narrow
 plain-in : EntryIn (Size 0 0 0 0 0)
-plain-in = record { rows = omega arith; line = omega arith; narrow = (lit≤ tt, (lit≤ tt, (lit≤ tt, lit≤ tt))) }
+plain-in = record { rows = omega arith; line = omega arith; narrow = (lit≤ tt, (lit≤ tt, (lit≤ tt, lit≤ tt))); names = refl }
 
 size-le : (z : Scaled) → sizeOf z ≤ 255
 size-le z = by (eqb (z .siz) 3)
@@ -62,16 +62,16 @@ cut-le : (x : ℤ) → u16 x ≤ 65535
 cut-le x = let h = modulo-lt x {m = 65536} (lit< tt) in omega arith
 
 tile7-in : (z : Scaled) (destination : ℤ) → EntryIn (tile7 z destination)
-tile7-in z destination = record { rows = omega arith; line = omega arith; narrow = (lit≤ tt, (size-le z, (omega arith, (cut-le destination, (lit≤ tt, (lit≤ tt, (lit≤ tt, (lit≤ tt, lit≤ tt)))))))) }
+tile7-in z destination = record { rows = omega arith; line = omega arith; narrow = (lit≤ tt, (size-le z, (omega arith, (cut-le destination, (lit≤ tt, (lit≤ tt, (lit≤ tt, (lit≤ tt, lit≤ tt)))))))); names = refl }
 
 tile0-in : (z : Scaled) → SoundScaled z → EntryIn (tile0 z)
-tile0-in z h = record { rows = omega arith; line = omega arith; narrow = (h .fmt, (omega (arith, h .siz), (omega arith, (lit≤ tt, (h .palette, (lit≤ tt, (lit≤ tt, (lit≤ tt, lit≤ tt)))))))) }
+tile0-in z h = record { rows = omega arith; line = omega arith; narrow = (h .fmt, (omega (arith, h .siz), (omega arith, (lit≤ tt, (h .palette, (lit≤ tt, (lit≤ tt, (lit≤ tt, lit≤ tt)))))))); names = refl }
 
 image-in : (z : Scaled) (pointer : ℕ) → EntryIn (imageOf z pointer)
-image-in z pointer = record { rows = omega arith; line = omega arith; narrow = tt }
+image-in z pointer = record { rows = omega arith; line = omega arith; narrow = tt; names = tt }
 
 rect-in : (z : Scaled) (w : Walk) (lines : ℕ) → EntryIn (rectOf z w lines)
-rect-in z w lines = record { rows = omega arith; line = omega arith; narrow = tt }
+rect-in z w lines = record { rows = omega arith; line = omega arith; narrow = tt; names = tt }
 
 -- the first entry's rows and line, and that it is narrow, as the size that a refused load has set
 abbrev firstRows : Out (Unit {0}) → ℕ
@@ -90,6 +90,11 @@ firstNarrow (go (e ∷ es) u) = Narrow e
 firstNarrow (stop es [] v) = Unit {0}
 firstNarrow (stop es (e ∷ l) v) = Narrow e
 
+abbrev firstNames : Out (Unit {0}) → Type 0
+firstNames (go [] u) = Unit {0}
+firstNames (go (e ∷ es) u) = Names e
+firstNames (stop es l v) = Unit {0}
+
 asked-rows : (q : LoadRequest) (i uls ult lrs lrt : ℕ) → firstRows (loadOut q i uls ult lrs lrt) ≡ rowsIn q
 unfolding loadOut
 asked-rows (request.Load words rows stride start length) i uls ult lrs lrt = refl
@@ -104,6 +109,11 @@ asked-narrow : (q : LoadRequest) (i lrs lrt : ℕ) → lrs ≤ 65535 → lrt ≤
 unfolding loadOut
 asked-narrow (request.Load words rows stride start length) i lrs lrt a b = (lit≤ tt, (lit≤ tt, (a, b)))
 asked-narrow request.Overflow i lrs lrt a b = (lit≤ tt, (lit≤ tt, (a, b)))
+
+asked-names : (q : LoadRequest) (lrs lrt : ℕ) → firstNames (loadOut q 7 0 0 lrs lrt)
+unfolding loadOut
+asked-names (request.Load words rows stride start length) lrs lrt = refl
+asked-names request.Overflow lrs lrt = tt
 
 lower-lt : (z : Scaled) (rows : ℤ) → lrtOf z rows < 65536
 lower-lt z rows = by (eqb (z .siz) 3)
@@ -128,6 +138,7 @@ load-in z pointer rows width e i =
       rows = rw a (rows-in (sizeOf z) (fieldOf z) pointer 0 0 (lrsOf width) (lrtOf z rows) (lower-lt z rows));
       line = rw b (omega arith);
       narrow = subst firstNarrow (sym i) (load-narrow z pointer rows width);
+      names = subst firstNames (sym i) (asked-names q (lrsOf width) (lrtOf z rows));
     }
 
 -- a refused load is no entry

@@ -1,7 +1,9 @@
 -- The ranges of a plan's numbers: what the set-up of each mode promises, and what its walk needs so that no sum overflows.
 -- Assumes nothing.
 use mathlib.Core.Path.{_≡_}
+use mathlib.Core.Bool.{cond}
 use Prim.Native.Nat.{ℕ, _+_, _/_, _^_, _≤_, _<_}
+use lib.Dec.{eqb}
 use lib.IntN.{ℤ, pos, negℤ}
 use lib.Signed.{_≤ℤ_}
 use Rattle.plan.specs.declared.types.Copy.{Copy}
@@ -91,8 +93,17 @@ Narrow (Size i uls ult lrs lrt) = (uls ≤ 65535) × ((ult ≤ 65535) × ((lrs �
 Narrow (Load i uls ult lrs lrt words rows stride start len) = (uls ≤ 65535) × ((ult ≤ 65535) × ((lrs ≤ 65535) × (lrt ≤ 65535)))
 Narrow (Rect i ulx uly lrx lry uls ult dsdx dtdy row) = Unit {0}
 
--- so few that their product fits a word
+-- plans set tiles 0 and 7, size tile 0 and load into tile 7
+abbrev pub Names : Entry → Type 0
+Names (Image fmt siz width address) = Unit {0}
+Names (Tile i fmt siz line tmem palette cms cmt masks maskt) = i ≡ cond (eqb i 7) 7 0
+Names (Size i uls ult lrs lrt) = i ≡ 0
+Names (Load i uls ult lrs lrt words rows stride start len) = i ≡ 7
+Names (Rect i ulx uly lrx lry uls ult dsdx dtdy row) = Unit {0}
+
+-- rows and line so few that their product fits a word
 pub record EntryIn (e : Entry) : Type 0 where
   pub rows : entryRows e ≤ 16384
   pub line : entryLine e ≤ 65535
   pub narrow : Narrow e
+  pub names : Names e

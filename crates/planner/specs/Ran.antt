@@ -18,11 +18,15 @@ use Rattle.plan.specs.declared.types.Answer.the-variants as answer
 use Rattle.plan.specs.Out.{Plan}
 use Rattle.plan.specs.Whole.{planOf}
 use Rattle.plan.specs.Run.{entryWords, planWords, endOf, cutAt, runOf}
+use Rattle.plan.specs.Sound.{EntryIn}
 use Rattle.plan.specs.Steps.{Coming, comingOf}
 use Rattle.words.specs.declared.count.Counts.{Counts}
+use Rattle.words.specs.declared.giving.Places.{Places}
 use Rattle.words.specs.Counts.{zeroCounts, countedOf, countedAll, endWith, counted-entries, end-of}
-use Rattle.words.specs.Eleven.{eleven, eleven-each}
-use Rattle.words.specs.Host.{bankNumbers, wordsStep, wordsAfter, runWords, run-end, run-bank, run-buffer}
+use Rattle.words.specs.Eleven.{eleven, eleven-each, words-append}
+use Rattle.words.specs.Host.{bankNumbers, wordsAfter, after-append, runWords, run-end, run-bank, run-buffer}
+use Rattle.words.specs.Places.{noPlaces, placedOf, settledOf, PlacesIn}
+use Rattle.words.specs.Placed.{Placed, placed-start, placed-more, places-in, settled-is}
 use Rattle.planner.specs.declared.types.Planner.{Planner}
 use Rattle.planner.specs.declared.types.Given.{Given}
 use Rattle.planner.specs.declared.types.Given.the-variants as given
@@ -52,41 +56,31 @@ abbrev pub StepsTo : (kept : Bool) → Coming → (buf ws out ws′ : List ℕ) 
 StepsTo true k buf ws out ws′ r = (plan : Plan) → k ≡ comingOf plan → (r ≡ runWords plan buf ws .end) × ((ws′ ≡ runWords plan buf ws .bank) × (out ≡ runWords plan buf ws .buffer))
 StepsTo false k buf ws out ws′ r = r ≡ k .end
 
--- `given` is in the buffer
-pub record Kept (buf out : List ℕ) (at : ℕ) (given : List Entry) : Type 0 where
+-- `given` is in the buffer, and the places are where its entries stand
+pub record Kept (buf out : List ℕ) (at : ℕ) (ps : Places) (given : List Entry) : Type 0 where
   pub place : at ≡ 11 * length given
   pub fits : 11 * length given ≤ length buf
   pub same : length out ≡ length buf
   pub buffer : out ≡ planWords given ++ drop (11 * length given) buf
+  pub placed : Placed given ps
 
 -- entries that are only counted all go to the buffer's first words
-abbrev pub Written : (kept : Bool) → (buf out : List ℕ) → (at : ℕ) → List Entry → Type 0
-Written true buf out at given = Kept buf out at given
-Written false buf out at given = (at ≡ 0) × ((length out ≡ length buf) × (11 ≤ length buf))
+abbrev pub Written : (kept : Bool) → (buf out : List ℕ) → (at : ℕ) → Places → List Entry → Type 0
+Written true buf out at ps given = Kept buf out at ps given
+Written false buf out at ps given = (at ≡ 0) × ((length out ≡ length buf) × (11 ≤ length buf))
 
 -- steps that are under way: `given` is given, the rest is to come
-pub record Going (kept : Bool) (k : Coming) (buf ws out ws′ : List ℕ) (p : Planner) (n : Counts) (at : ℕ) : Type 0 where
+pub record Going (kept : Bool) (k : Coming) (buf out : List ℕ) (p : Planner) (n : Counts) (at : ℕ) (ps : Places) : Type 0 where
   pub given : List Entry
   pub whole : k .entries ≡ given ++ coming p .entries
   pub left : k .left ≡ coming p .left
   pub end : k .end ≡ coming p .end
   pub counts : p .counts ≡ countedAll zeroCounts given
   pub same : n ≡ p .counts
-  pub bank : ws′ ≡ wordsAfter ws given
-  pub written : Written kept buf out at given
+  pub written : Written kept buf out at ps given
   pub sound : Sound p
 
 -- ---- lists
-
-words-append : (es fs : List Entry) → planWords (es ++ fs) ≡ planWords es ++ planWords fs
-unfolding planWords
-words-append [] fs = refl
-words-append (e ∷ es) fs = ap (λ (l : List ℕ). entryWords e ++ l) (words-append es fs) ∙ sym (append-assoc (entryWords e) (planWords es) (planWords fs))
-
-bank-append : (es fs : List Entry) (ws : List ℕ) → wordsAfter ws (es ++ fs) ≡ wordsAfter (wordsAfter ws es) fs
-unfolding wordsAfter
-bank-append [] fs ws = refl
-bank-append (e ∷ es) fs ws = bank-append es fs (wordsStep ws e)
 
 counts-append : (es fs : List Entry) (n : Counts) → countedAll n (es ++ fs) ≡ countedAll (countedAll n es) fs
 unfolding countedAll
@@ -101,10 +95,6 @@ one-more : (es : List Entry) (e : Entry) (k : Counts) → countedAll k (es ++ e 
 unfolding countedAll
 one-more es e k = counts-append es (e ∷ []) k
 
-bank-more : (es : List Entry) (e : Entry) (ws : List ℕ) → wordsAfter ws (es ++ e ∷ []) ≡ wordsStep (wordsAfter ws es) e
-unfolding wordsAfter
-bank-more es e ws = bank-append es (e ∷ []) ws
-
 -- the buffer with eleven more words
 paste-more : (xs ws buf : List ℕ) (a : ℕ) → length ws ≡ 11 → length xs ≡ a → paste (xs ++ drop a buf) a ws 11 ≡ (xs ++ ws) ++ drop (a + 11) buf
 paste-more xs ws buf a w l =
@@ -114,27 +104,34 @@ paste-more xs ws buf a w l =
 
 -- ---- steps start, go on, and end
 
-pub going-start : (kept : Bool) (p : Planner) → Sound p → p .counts ≡ zeroCounts → (buf ws : List ℕ) → (kept ≡ false → 11 ≤ length buf) → (stride : ℕ) → Going kept (coming p) buf ws buf ws p (p .counts) (p .counts .entries * stride)
-unfolding countedAll wordsAfter planWords
-going-start kept p h n buf ws room stride =
-    record { given = []; whole = refl; left = refl; end = refl; counts = n; same = refl; bank = refl; written = by kept room; sound = h }
+pub going-start : (kept : Bool) (p : Planner) → Sound p → p .counts ≡ zeroCounts → (buf : List ℕ) → (kept ≡ false → 11 ≤ length buf) → (stride : ℕ) → Going kept (coming p) buf buf p (p .counts) (p .counts .entries * stride) noPlaces
+unfolding countedAll planWords
+going-start kept p h n buf room stride =
+    record { given = []; whole = refl; left = refl; end = refl; counts = n; same = refl; written = by kept room; sound = h }
   where
     first : p .counts .entries * stride ≡ 0
     first = let z : 0 * stride ≡ 0 = omega arith in ap (λ (m : Counts). m .entries * stride) n ∙ z
 
-    by : (kept : Bool) → (kept ≡ false → 11 ≤ length buf) → Written kept buf buf (p .counts .entries * stride) []
-    by true r = record { place = first; fits = omega arith; same = refl; buffer = refl }
+    by : (kept : Bool) → (kept ≡ false → 11 ≤ length buf) → Written kept buf buf (p .counts .entries * stride) noPlaces []
+    by true r = record { place = first; fits = omega arith; same = refl; buffer = refl; placed = placed-start }
     by false r = (first, (refl, r refl))
 
--- the buffer keeps its length, and the place lies in it
-module _ {k : Coming} {buf ws out ws′ : List ℕ} {p : Planner} {n : Counts} {at : ℕ} where
-  pub still-long : (kept : Bool) → Going kept k buf ws out ws′ p n at → length out ≡ length buf
+-- the buffer keeps its length, the place lies in it, and the places are those of entries
+module _ {k : Coming} {buf out : List ℕ} {p : Planner} {n : Counts} {at : ℕ} {ps : Places} where
+  pub still-long : (kept : Bool) → Going kept k buf out p n at ps → length out ≡ length buf
   still-long true g = g .written .same
   still-long false g = g .written .1 .0
 
-  pub at-in : (kept : Bool) → Going kept k buf ws out ws′ p n at → at ≤ length out
+  pub at-in : (kept : Bool) → Going kept k buf out p n at ps → at ≤ length out
   at-in true g = let l = g .written .place in let h = g .written .fits in let m = g .written .same in omega arith
   at-in false g = let l = g .written .0 in omega arith
+
+  pub going-places : (kept : Bool) → Going kept k buf out p n at ps → kept ≡ true → PlacesIn out ps
+  going-places true g t = places-in (g .given) ps (g .written .placed) out _ (g .written .buffer)
+  going-places false g t = let z : _≡_ {A = ℕ} 0 1 = cc in absurd (omega arith)
+
+  going-settled : (g : Going true k buf out p n at ps) (ws : List ℕ) → settledOf ws out ps ≡ wordsAfter ws (g .given)
+  going-settled g ws = settled-is (g .given) ps (g .written .placed) out _ (g .written .buffer) ws
 
 -- the place of the entry after one that is counted
 pub next-place : (kept : Bool) (stride : ℕ) → stride ≡ strideOf kept → (n : Counts) (e : Entry) → countedOf n e .entries * stride ≡ n .entries * stride + strideOf kept
@@ -142,9 +139,9 @@ next-place true stride s n e = rw s (omega (arith, counted-entries n e))
 next-place false stride s n e = rw s (omega arith)
 
 -- one more entry in the buffer
-written-more : (kept : Bool) (buf out : List ℕ) (at : ℕ) (gs : List Entry) (e : Entry) → Written kept buf out at gs → at + 11 ≤ length out
-    → Written kept buf (paste out at (entryWords e) 11) (at + strideOf kept) (gs ++ e ∷ [])
-written-more true buf out at gs e w room =
+written-more : (kept : Bool) (buf out : List ℕ) (at : ℕ) (ps : Places) (gs : List Entry) (e : Entry) → Written kept buf out at ps gs → at + 11 ≤ length out → EntryIn e
+    → Written kept buf (paste out at (entryWords e) 11) (at + strideOf kept) (placedOf ps at e) (gs ++ e ∷ [])
+written-more true buf out at ps gs e w room i =
     let l = w .place in
     let m = w .same in
     let len : length (gs ++ e ∷ []) ≡ length gs + 1 = length-append gs (e ∷ []) in
@@ -158,14 +155,15 @@ written-more true buf out at gs e w room =
           ∙ paste-more (planWords gs) (entryWords e) buf at (eleven e) (eleven-each gs ∙ sym l)
           ∙ ap (λ (x : List ℕ). x ++ drop (at + 11) buf) (sym (more-words gs e))
           ∙ ap (λ (n : ℕ). planWords (gs ++ e ∷ []) ++ drop n buf) d;
+      placed = placed-more gs ps (w .placed) at l e i;
     }
-written-more false buf out at gs e w room = let l = w .0 in (omega arith, (length-paste out at (entryWords e) 11 room (omega (arith, eleven e)) ∙ w .1 .0, w .1 .1))
+written-more false buf out at ps gs e w room i = let l = w .0 in (omega arith, (length-paste out at (entryWords e) 11 room (omega (arith, eleven e)) ∙ w .1 .0, w .1 .1))
 
-module _ (kept : Bool) (k : Coming) (buf ws out ws′ : List ℕ) (p : Planner) (n : Counts) (at : ℕ) (g : Going kept k buf ws out ws′ p n at) (s : Step) (i : StepGives p s) where
+module _ (kept : Bool) (k : Coming) (buf out : List ℕ) (p : Planner) (n : Counts) (at : ℕ) (ps : Places) (g : Going kept k buf out p n at ps) (s : Step) (i : StepGives p s) where
   -- one more entry
-  pub going-more : (e : Entry) → s .given ≡ given.Entry e → (out′ ws″ : List ℕ) (n′ : Counts) (at′ : ℕ) → out′ ≡ paste out at (entryWords e) 11 → ws″ ≡ wordsStep ws′ e → n′ ≡ countedOf n e → at′ ≡ at + strideOf kept → at + 11 ≤ length out
-      → Going kept k buf ws out′ ws″ (s .planner) n′ at′
-  going-more e a out′ ws″ n′ at′ o j m l room =
+  pub going-more : (e : Entry) → s .given ≡ given.Entry e → (out′ : List ℕ) (n′ : Counts) (at′ : ℕ) (ps′ : Places) → out′ ≡ paste out at (entryWords e) 11 → n′ ≡ countedOf n e → ps′ ≡ placedOf ps at e → at′ ≡ at + strideOf kept → at + 11 ≤ length out
+      → Going kept k buf out′ (s .planner) n′ at′ ps′
+  going-more e a out′ n′ at′ ps′ o m q l room =
       let gs = g .given in
       let es-is = gave-entry p s i e a in
       let rest-is = gave-rest p s i e a in
@@ -177,8 +175,7 @@ module _ (kept : Bool) (k : Coming) (buf ws out ws′ : List ℕ) (p : Planner) 
         end = g .end ∙ ap (λ (c : Coming). c .end) (sym rest-is);
         counts = counts-is ∙ ap (λ (x : Counts). countedOf x e) (g .counts) ∙ sym (one-more gs e zeroCounts);
         same = m ∙ ap (λ (x : Counts). countedOf x e) (g .same) ∙ sym counts-is;
-        bank = j ∙ ap (λ (x : List ℕ). wordsStep x e) (g .bank) ∙ sym (bank-more gs e ws);
-        written = rw (o, l) (written-more kept buf out at gs e (g .written) room);
+        written = rw (o, l, q) (written-more kept buf out at ps gs e (g .written) room (rw a at (i .ranges)));
         sound = i .sound;
       }
 
@@ -188,7 +185,7 @@ unfolding coming countedAll
 counts-at-end p none = ap (λ (es : List Entry). endWith (countedAll (p .counts) es) (comingCourse (p .course) .verdict)) none
 
 -- all entries are written
-module _ (plan : Plan) (buf ws out ws′ : List ℕ) (p : Planner) (n : Counts) (at : ℕ) (g : Going true (comingOf plan) buf ws out ws′ p n at) where
+module _ (plan : Plan) (buf ws out : List ℕ) (p : Planner) (n : Counts) (at : ℕ) (ps : Places) (g : Going true (comingOf plan) buf out p n at ps) where
   module _ (none : coming p .entries ≡ []) where
     all-given : plan .entries ≡ g .given
     all-given = g .whole ∙ ap (λ (es : List Entry). g .given ++ es) none ∙ append-nil (g .given)
@@ -204,11 +201,11 @@ module _ (plan : Plan) (buf ws out ws′ : List ℕ) (p : Planner) (n : Counts) 
     unfolding runWords
     end-end = sym (g .end) ∙ ap endOf (sym uncut)
 
-    end-bank : wordsAfter ws′ (coming p .left) ≡ runWords plan buf ws .bank
+    end-bank : wordsAfter (settledOf ws out ps) (coming p .left) ≡ runWords plan buf ws .bank
     unfolding runWords
     end-bank =
-        ap (λ (x : List ℕ). wordsAfter x (coming p .left)) (g .bank)
-        ∙ sym (bank-append (g .given) (coming p .left) ws)
+        ap (λ (x : List ℕ). wordsAfter x (coming p .left)) (going-settled g ws)
+        ∙ sym (after-append (g .given) (coming p .left) ws)
         ∙ ap (λ (es : List Entry). wordsAfter ws (es ++ coming p .left)) (sym all-given)
         ∙ ap (λ (es : List Entry). wordsAfter ws (plan .entries ++ es)) (sym (g .left))
         ∙ ap (λ (x : Plan). wordsAfter ws (x .entries ++ x .left)) (sym uncut)
@@ -241,19 +238,19 @@ module _ (plan : Plan) (buf ws out ws′ : List ℕ) (p : Planner) (n : Counts) 
     unfolding runWords
     full-end = ap (λ (n : Counts). endWith n verdict.Full) (g .counts) ∙ end-of (record { entries = g .given; left = []; verdict = verdict.Full }) ∙ ap endOf (sym cut)
 
-    full-bank : ws′ ≡ runWords plan buf ws .bank
+    full-bank : settledOf ws out ps ≡ runWords plan buf ws .bank
     unfolding runWords
-    full-bank = g .bank ∙ ap (wordsAfter ws) (sym (append-nil (g .given))) ∙ ap (λ (y : Plan). wordsAfter ws (y .entries ++ y .left)) (sym cut)
+    full-bank = going-settled g ws ∙ ap (wordsAfter ws) (sym (append-nil (g .given))) ∙ ap (λ (y : Plan). wordsAfter ws (y .entries ++ y .left)) (sym cut)
 
     full-buffer : out ≡ runWords plan buf ws .buffer
     unfolding runWords
     full-buffer = g .written .buffer ∙ ap (λ (y : Plan). planWords (y .entries) ++ drop (11 * length (y .entries)) buf) (sym cut)
 
--- the steps are over where no entry comes next, or where there is no room
-module _ (k : Coming) (buf ws out ws′ : List ℕ) (p : Planner) (n : Counts) (at : ℕ) (s : Step) (i : StepGives p s) where
-  pub steps-end : (kept : Bool) → Going kept k buf ws out ws′ p n at → (d : Given) → s .given ≡ d → (x : End) → answerIn d ≡ answer.End x → (ws″ : List ℕ) → ws″ ≡ wordsAfter ws′ (leftIn d) → (r : End) → r ≡ endWith n (x .verdict)
+-- the steps are over where no entry comes next, or where there is no room; then the bank is settled
+module _ (k : Coming) (buf ws out ws′ : List ℕ) (p : Planner) (n : Counts) (at : ℕ) (ps : Places) (s : Step) (i : StepGives p s) where
+  pub steps-end : (kept : Bool) → Going kept k buf out p n at ps → (d : Given) → s .given ≡ d → (x : End) → answerIn d ≡ answer.End x → ws′ ≡ cond kept (settledOf ws out ps) ws → (ws″ : List ℕ) → ws″ ≡ wordsAfter ws′ (leftIn d) → (r : End) → r ≡ endWith n (x .verdict)
       → StepsTo kept k buf ws out ws″ r
-  steps-end kept g d j x a ws″ b r e = by kept g
+  steps-end kept g d j x a b ws″ b′ r e = by kept g b
     where
       t : (coming p .entries ≡ []) × ((x ≡ coming p .end) × (coming p .left ≡ leftIn d))
       t = gave-end p s i d j x a
@@ -261,16 +258,16 @@ module _ (k : Coming) (buf ws out ws′ : List ℕ) (p : Planner) (n : Counts) (
       r-is : n ≡ p .counts → r ≡ coming p .end
       r-is m = e ∙ ap (λ (y : Counts). endWith y (x .verdict)) m ∙ ap (λ (y : End). endWith (p .counts) (y .verdict)) (t .1 .0) ∙ sym (counts-at-end p (t .0))
 
-      by : (kept : Bool) → Going kept k buf ws out ws′ p n at → StepsTo kept k buf ws out ws″ r
-      by true g = λ plan q.
-          let h = subst (λ (c : Coming). Going true c buf ws out ws′ p n at) q g in
-          (r-is (g .same) ∙ end-end plan buf ws out ws′ p n at h (t .0), (b ∙ ap (wordsAfter ws′) (sym (t .1 .1)) ∙ end-bank plan buf ws out ws′ p n at h (t .0), end-buffer plan buf ws out ws′ p n at h (t .0)))
-      by false g = r-is (g .same) ∙ sym (g .end)
+      by : (kept : Bool) → Going kept k buf out p n at ps → ws′ ≡ cond kept (settledOf ws out ps) ws → StepsTo kept k buf ws out ws″ r
+      by true g b = λ plan q.
+          let h = subst (λ (c : Coming). Going true c buf out p n at ps) q g in
+          (r-is (g .same) ∙ end-end plan buf ws out p n at ps h (t .0), (b′ ∙ ap (λ (vs : List ℕ). wordsAfter vs (leftIn d)) b ∙ ap (wordsAfter (settledOf ws out ps)) (sym (t .1 .1)) ∙ end-bank plan buf ws out p n at ps h (t .0), end-buffer plan buf ws out p n at ps h (t .0)))
+      by false g b = r-is (g .same) ∙ sym (g .end)
 
-  pub steps-full : (kept : Bool) → Going kept k buf ws out ws′ p n at → (e : Entry) → s .given ≡ given.Entry e → length out - at < 11 → (r : End) → r ≡ endWith n verdict.Full → StepsTo kept k buf ws out ws′ r
-  steps-full true g e j l r a =
+  pub steps-full : (kept : Bool) → Going kept k buf out p n at ps → (e : Entry) → s .given ≡ given.Entry e → length out - at < 11 → ws′ ≡ cond kept (settledOf ws out ps) ws → (r : End) → r ≡ endWith n verdict.Full → StepsTo kept k buf ws out ws′ r
+  steps-full true g e j l b r a =
       let some = gave-entry p s i e j in
       λ plan q.
-      let h = subst (λ (c : Coming). Going true c buf ws out ws′ p n at) q g in
-      (a ∙ ap (λ (y : Counts). endWith y verdict.Full) (g .same) ∙ full-end plan buf ws out ws′ p n at h e _ some l, (full-bank plan buf ws out ws′ p n at h e _ some l, full-buffer plan buf ws out ws′ p n at h e _ some l))
-  steps-full false g e j l r a = let w = g .written in absurd (omega (arith, w .0, w .1 .0, w .1 .1))
+      let h = subst (λ (c : Coming). Going true c buf out p n at ps) q g in
+      (a ∙ ap (λ (y : Counts). endWith y verdict.Full) (g .same) ∙ full-end plan buf ws out p n at ps h e _ some l, (b ∙ full-bank plan buf ws out p n at ps h e _ some l, full-buffer plan buf ws out p n at ps h e _ some l))
+  steps-full false g e j l b r a = let w = g .written in absurd (omega (arith, w .0, w .1 .0, w .1 .1))

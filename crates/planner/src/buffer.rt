@@ -1,12 +1,13 @@
 // A whole run: the entries of the steps, written into the caller's words; or its end alone.
 ghost use mathlib.Core.Path.{_≡_};
-ghost use mathlib.Core.Bool.{Bool, false};
+ghost use mathlib.Core.Bool.{Bool, true, false, cond};
 ghost use Prim.Native.Nat.{_≤_};
 ghost use lib.ListN.{length};
 ghost use Rattle.plan.specs.Whole.{planOf};
 ghost use Rattle.plan.specs.Run.{endOf};
 ghost use Rattle.plan.specs.Steps.{comingOf};
 ghost use Rattle.words.specs.Counts.{zeroCounts};
+ghost use Rattle.words.specs.Places.{PlacesIn, settledOf};
 ghost use Rattle.planner.specs.Coming.{Sound, coming, requestOf};
 ghost use Rattle.planner.specs.Ran.{RanIs, StepsTo, strideOf};
 use crate::start::fresh;
@@ -15,6 +16,7 @@ use crate::types::Planner;
 use object::Scissor;
 use object::Verdict;
 use plan::End;
+use words::Places;
 
 // The words from one entry to the next.
 fn stride(kept: bool) -> usize
@@ -23,14 +25,31 @@ fn stride(kept: bool) -> usize
     if kept { 11 } else { 0 }
 }
 
+// The bank's words as the entries leave them; where they are only counted, nothing asks for it.
+fn settled(kept: bool, bank: &mut [u64], places: Places, plan: &[u64])
+    requires { ⌜ (kept ≡ true → PlacesIn (now plan) places) ⌝ }
+    ensures { λ _. ⌜ now (bank .exit) ≡ cond kept (settledOf (now (bank .entry)) (now (plan .entry)) places) (now (bank .entry)) ⌝ }
+{
+    if kept {
+        words::settle(&mut *bank, places, plan);
+    }
+}
+
 // Steps to the end, or to an entry that has no room. The counts are kept beside the planner's, which the compiler then drops: both would have to stand until it is known that there is room.
 fn steps(start: Planner, bank: &mut [u64], kept: bool, plan: &mut [u64]) -> End
     requires { ⌜ (Sound start) × (start .counts ≡ zeroCounts) × (kept ≡ false → 11 ≤ length (now plan)) ⌝ }
     ensures { λ r. ⌜ StepsTo kept (coming start) (now (plan .entry)) (now (bank .entry)) (now (plan .exit)) (now (bank .exit)) r ⌝ }
 {
     let stride = stride(kept);
+    let mut places = Places {
+        tile0: 0,
+        tile7: 0,
+        bounds0: 0,
+        bounds7: 0,
+    };
     let mut p = start;
     let mut n = start.counts;
+    let mut verdict = Verdict::Full;
     loop {
         let s = p.step();
         let given = s.given;
@@ -38,22 +57,27 @@ fn steps(start: Planner, bank: &mut [u64], kept: bool, plan: &mut [u64]) -> End
             Given::Entry(entry) => {
                 let at = n.entries as usize * stride;
                 if plan.len() - at < 11 {
-                    return words::end_of(n, Verdict::Full);
+                    break;
                 }
-                n = words::give(&mut *plan, at, &mut *bank, n, entry);
+                let g = words::give(&mut *plan, at, places, n, entry);
+                n = g.counts;
+                places = g.places;
                 p = s.planner;
             }
             Given::Refused(size, end) => {
+                settled(kept, &mut *bank, places, plan);
                 words::set_words(&mut *bank, size);
                 let verdict = end.verdict;
                 return words::end_of(n, verdict);
             }
             Given::End(end) => {
-                let verdict = end.verdict;
-                return words::end_of(n, verdict);
+                verdict = end.verdict;
+                break;
             }
         }
     }
+    settled(kept, &mut *bank, places, plan);
+    words::end_of(n, verdict)
 }
 
 // All of a request's steps: the one caller of `fresh` and `steps`, so that the compiler joins them and all that they call.

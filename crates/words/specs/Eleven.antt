@@ -1,8 +1,8 @@
--- An entry has eleven words, so a plan's words have eleven to an entry.
+-- An entry has eleven words, so a plan's words have eleven to an entry; and the words of entries after others.
 -- Assumes nothing.
-use mathlib.Core.Path.{_≡_, refl, _∙_}
-use mathlib.Core.List.{List, [], _∷_}
-use Prim.Native.Nat.{_*_}
+use mathlib.Core.Path.{_≡_, refl, sym, ap, _∙_}
+use mathlib.Core.List.{List, [], _∷_, _++_, append-assoc}
+use Prim.Native.Nat.{ℕ, _*_}
 use native.Mathlib.Omega.{arith}
 use lib.ListN.{length, length-append}
 use Rattle.plan.specs.declared.types.Entry.{Entry}
@@ -21,3 +21,8 @@ pub eleven-each : (es : List Entry) → length (planWords es) ≡ 11 * length es
 unfolding planWords
 eleven-each [] = refl
 eleven-each (e ∷ es) = length-append (entryWords e) (planWords es) ∙ omega (arith, eleven e, eleven-each es)
+
+pub words-append : (es fs : List Entry) → planWords (es ++ fs) ≡ planWords es ++ planWords fs
+unfolding planWords
+words-append [] fs = refl
+words-append (e ∷ es) fs = ap (λ (l : List ℕ). entryWords e ++ l) (words-append es fs) ∙ sym (append-assoc (entryWords e) (planWords es) (planWords fs))

@@ -51,6 +51,15 @@ unfoldable pub wordsAfter : List ℕ → List Entry → List ℕ
 wordsAfter ws [] = ws
 wordsAfter ws (e ∷ es) = wordsAfter (wordsStep ws e) es
 
+pub after-append : (es fs : List Entry) (ws : List ℕ) → wordsAfter ws (es ++ fs) ≡ wordsAfter (wordsAfter ws es) fs
+unfolding wordsAfter
+after-append [] fs ws = refl
+after-append (e ∷ es) fs ws = after-append es fs (wordsStep ws e)
+
+pub after-more : (es : List Entry) (e : Entry) (ws : List ℕ) → wordsAfter ws (es ++ e ∷ []) ≡ wordsStep (wordsAfter ws es) e
+unfolding wordsAfter
+after-more es e ws = after-append es (e ∷ []) ws
+
 -- what a whole run leaves of a buffer and of a bank's words
 pub record RanWords : Type 0 where
   pub buffer : List ℕ

@@ -1,13 +1,12 @@
-// An entry given to a host: its words in the plan, what it sets in the bank's words, and the counts after it.
+// An entry given to a host: its words in the plan, the counts after it, and where it stands for the tile that it sets.
 ghost use mathlib.Core.Path.{_≡_};
 ghost use Prim.Native.Nat.{_+_, _≤_};
 ghost use lib.ListN.{length};
 ghost use lib.Seq.{paste};
-ghost use Rattle.plan.specs.Sound.{Narrow, EntryIn};
+ghost use Rattle.plan.specs.Sound.{EntryIn};
 ghost use Rattle.plan.specs.Run.{entryWords};
 ghost use Rattle.words.specs.Counts.{Countable, countedOf};
-ghost use Rattle.words.specs.Host.{tileIn, boundsIn, wordsStep};
-use crate::buffer::put;
+ghost use Rattle.words.specs.Places.{tilePlaced, placedOf};
 use crate::buffer::store;
 use crate::count::Counts;
 use crate::count::counted;
@@ -17,106 +16,39 @@ use crate::entry::rect_words;
 use crate::entry::size_words;
 use crate::entry::tile_words;
 use plan::Entry;
-use tile::texels;
 
-// A tile's words: its fields in their order.
-const TILE: usize = 17;
-
-// Sets all of a tile but its bounds, width and height; nothing where there is no such tile.
-fn set_tile(
-    bank: &mut [u64],
-    index: u64,
-    fmt: u64,
-    siz: u64,
-    line: u64,
-    tmem: u64,
-    palette: u64,
-    cms: u64,
-    cmt: u64,
-    masks: u64,
-    maskt: u64,
-)
-    ensures { λ _. ⌜ now (bank .exit) ≡ tileIn (now (bank .entry)) index fmt siz line tmem palette cms cmt masks maskt ⌝ }
-{
-    if index < (bank.len() / TILE) as u64 {
-        let numbers = [fmt, siz, palette, cms, cmt, masks, maskt, 0, 0, line, tmem];
-        put(&mut *bank, index as usize * TILE + 6, &numbers);
-    }
+// Where in the plan the entries stand by which tiles 0 and 7 and their bounds were last set, each place one further on, and 0 for none.
+// A bank is set once, by these, and not at each entry.
+pub struct Places {
+    pub tile0: usize,
+    pub tile7: usize,
+    pub bounds0: usize,
+    pub bounds7: usize,
 }
 
-// Sets a tile's bounds, and the width and height that follow.
-fn set_bounds(bank: &mut [u64], index: u64, uls: u64, ult: u64, lrs: u64, lrt: u64)
-    requires { ⌜ (uls ≤ 65535) × ((ult ≤ 65535) × ((lrs ≤ 65535) × (lrt ≤ 65535))) ⌝ }
-    ensures { λ _. ⌜ now (bank .exit) ≡ boundsIn (now (bank .entry)) index uls ult lrs lrt ⌝ }
-{
-    if index < (bank.len() / TILE) as u64 {
-        let width = texels(uls as u16, lrs as u16) as u64;
-        let height = texels(ult as u16, lrt as u16) as u64;
-        let numbers = [uls, ult, lrs, lrt, width, height];
-        put(&mut *bank, index as usize * TILE, &numbers);
-    }
+// What is known once an entry is given.
+pub struct Gave {
+    pub counts: Counts,
+    pub places: Places,
 }
 
-// What an entry sets in the bank's words; a load sets its tile's size itself.
-pub fn set_words(bank: &mut [u64], e: Entry)
-    requires { ⌜ Narrow e ⌝ }
-    ensures { λ _. ⌜ now (bank .exit) ≡ wordsStep (now (bank .entry)) e ⌝ }
+// A tile's entry stands at a place.
+fn tile_placed(p: Places, index: u64, place: usize) -> Places
+    ensures { λ r. ⌜ r ≡ tilePlaced p index place ⌝ }
 {
-    match e {
-        Entry::Tile {
-            index,
-            fmt,
-            siz,
-            line,
-            tmem,
-            palette,
-            cms,
-            cmt,
-            masks,
-            maskt,
-        } => {
-            set_tile(
-                &mut *bank,
-                index,
-                fmt,
-                siz,
-                line,
-                tmem,
-                palette,
-                cms,
-                cmt,
-                masks,
-                maskt,
-            );
-        }
-        Entry::Size {
-            index,
-            uls,
-            ult,
-            lrs,
-            lrt,
-        } => {
-            set_bounds(&mut *bank, index, uls, ult, lrs, lrt);
-        }
-        Entry::Load {
-            index,
-            uls,
-            ult,
-            lrs,
-            lrt,
-            ..
-        } => {
-            set_bounds(&mut *bank, index, uls, ult, lrs, lrt);
-        }
-        Entry::Image { .. } => {}
-        Entry::Rect { .. } => {}
+    let mut q = p;
+    if index == 7 {
+        q.tile7 = place;
+    } else {
+        q.tile0 = place;
     }
+    q
 }
 
-// Gives an entry; the counts after it. A table with all that a kind does in one arm, so longer than other functions: the compiler then jumps by the kind once.
-pub fn give(plan: &mut [u64], at: usize, bank: &mut [u64], n: Counts, e: Entry) -> Counts
+// Gives an entry; what is known after it. A table with all that a kind does in one arm, so longer than other functions: the compiler then jumps by the kind once.
+pub fn give(plan: &mut [u64], at: usize, places: Places, n: Counts, e: Entry) -> Gave
     requires { ⌜ (at + 11 ≤ length (now plan)) × ((Countable n) × EntryIn e) ⌝ }
-    ensures { λ r. ⌜ (now (plan .exit) ≡ paste (now (plan .entry)) at (entryWords e) 11) × (now (bank .exit) ≡ wordsStep (now (bank .entry)) e) × (r ≡ countedOf n e) ⌝ }
+    ensures { λ r. ⌜ (now (plan .exit) ≡ paste (now (plan .entry)) at (entryWords e) 11) × (r .counts ≡ countedOf n e) × (r .places ≡ placedOf places at e) ⌝ }
 {
     match e {
         Entry::Image {
@@ -126,7 +58,8 @@ pub fn give(plan: &mut [u64], at: usize, bank: &mut [u64], n: Counts, e: Entry) 
             address,
         } => {
             store(&mut *plan, at, image_words(fmt, siz, width, address));
-            counted(n, e)
+            let counts = counted(n, e);
+            Gave { counts, places }
         }
         Entry::Tile {
             index,
@@ -145,20 +78,9 @@ pub fn give(plan: &mut [u64], at: usize, bank: &mut [u64], n: Counts, e: Entry) 
                 at,
                 tile_words(index, fmt, siz, line, tmem, palette, cms, cmt, masks, maskt),
             );
-            set_tile(
-                &mut *bank,
-                index,
-                fmt,
-                siz,
-                line,
-                tmem,
-                palette,
-                cms,
-                cmt,
-                masks,
-                maskt,
-            );
-            counted(n, e)
+            let counts = counted(n, e);
+            let places = tile_placed(places, index, at + 1);
+            Gave { counts, places }
         }
         Entry::Size {
             index,
@@ -168,8 +90,14 @@ pub fn give(plan: &mut [u64], at: usize, bank: &mut [u64], n: Counts, e: Entry) 
             lrt,
         } => {
             store(&mut *plan, at, size_words(index, uls, ult, lrs, lrt));
-            set_bounds(&mut *bank, index, uls, ult, lrs, lrt);
-            counted(n, e)
+            let counts = counted(n, e);
+            let places = Places {
+                tile0: places.tile0,
+                tile7: places.tile7,
+                bounds0: at + 1,
+                bounds7: places.bounds7,
+            };
+            Gave { counts, places }
         }
         Entry::Load {
             index,
@@ -199,8 +127,14 @@ pub fn give(plan: &mut [u64], at: usize, bank: &mut [u64], n: Counts, e: Entry) 
                     length,
                 ),
             );
-            set_bounds(&mut *bank, index, uls, ult, lrs, lrt);
-            counted(n, e)
+            let counts = counted(n, e);
+            let places = Places {
+                tile0: places.tile0,
+                tile7: places.tile7,
+                bounds0: places.bounds0,
+                bounds7: at + 1,
+            };
+            Gave { counts, places }
         }
         Entry::Rect {
             tile,
@@ -219,7 +153,8 @@ pub fn give(plan: &mut [u64], at: usize, bank: &mut [u64], n: Counts, e: Entry) 
                 at,
                 rect_words(tile, ulx, uly, lrx, lry, uls, ult, dsdx, dtdy, row),
             );
-            counted(n, e)
+            let counts = counted(n, e);
+            Gave { counts, places }
         }
     }
 }

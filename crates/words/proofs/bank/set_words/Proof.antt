@@ -1,8 +1,8 @@
--- `words::giving::set_words` meets its contract: each arm is the definition's clause. Assumes nothing.
+-- `words::bank::set_words` meets its contract: each arm is the definition's clause. Assumes nothing.
 use Rattle.words.specs.Host.{wordsStep}
 use borrow.Author.Needs.{needs}
-use Rattle.words.proofs.giving.set_words.Statement.{statement}
-use Rattle.words.proofs.giving.set_words.Tie as tie
+use Rattle.words.proofs.bank.set_words.Statement.{statement}
+use Rattle.words.proofs.bank.set_words.Tie as tie
 
 enum-known-e : tie.Need-enum-known-e
 enum-known-e c = search needs

@@ -1,11 +1,11 @@
--- `words::giving::set_bounds` meets its contract: six words are put where the tile is there. Assumes nothing.
+-- `words::bank::set_bounds` meets its contract: six words are put where the tile is there. Assumes nothing.
 use mathlib.Core.Path.{_≡_}
 use Prim.Native.Nat.{_+_, _*_}
 use borrow.Author.Tests.{lt-ltb, le-ltb}
 use native.Mathlib.Omega.{arith}
 use borrow.Author.Needs.{needs}
-use Rattle.words.proofs.giving.set_bounds.Statement.{statement}
-use Rattle.words.proofs.giving.set_bounds.Tie as tie
+use Rattle.words.proofs.bank.set_bounds.Statement.{statement}
+use Rattle.words.proofs.bank.set_bounds.Tie as tie
 
 cast-texels : tie.Need-cast-texels
 cast-texels c = search needs
