@@ -18,7 +18,7 @@ extern "C" {
 /* request: opcode (9 scaled, 10 copy), scissor ulx uly lrx lry (signed), render mode (its low 32 bits count), image address */
 #define BG_REQUEST_WORDS 7
 /* bank: eight tiles, each uls ult lrs lrt width height fmt siz palette cms cmt masks maskt shifts shiftt line tmem;
-   a run writes the words that its entries set and reads none */
+   a run writes the words that its entries set and reads none, so that any values may stand there */
 #define BG_BANK_WORDS 136
 /* an entry: kind, then its numbers, signed ones modulo 2^64, then zeros */
 #define BG_ENTRY_WORDS 11

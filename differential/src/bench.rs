@@ -79,10 +79,9 @@ fn groups() -> Vec<Group> {
     ]
 }
 
-/// The original Rust, with the state that it keeps between commands.
+/// The original Rust, with the state that it keeps between commands, the tiles among it.
 struct Original {
     machine: Machine,
-    bank: Bank,
 }
 
 impl Original {
@@ -93,7 +92,6 @@ impl Original {
         };
         Original {
             machine: Machine::new(Bank::default(), plan),
-            bank: Bank::default(),
         }
     }
 
@@ -104,7 +102,6 @@ impl Original {
         } else {
             bg_1cyc
         };
-        self.machine.rdp.tiles = self.bank.clone();
         self.machine.rsp.plan.at = 0;
         self.machine.diagnostics.clear();
         let memory = CaseMemory::new(&record.object, record.address, false);
@@ -113,7 +110,9 @@ impl Original {
     }
 }
 
+/// The proved planner, with the bank that a host keeps between commands.
 struct Proved {
+    bank: [u64; BANK_WORDS],
     words: Vec<u64>,
 }
 
@@ -129,12 +128,11 @@ impl Proved {
             record.render_mode.into(),
             record.address,
         ];
-        let mut bank = [0; BANK_WORDS];
         let mut end = [0; END_WORDS];
         proved::run(
             &record.object,
             &request,
-            &mut bank,
+            &mut self.bank,
             &mut self.words,
             &mut end,
         );
@@ -174,6 +172,7 @@ fn main() {
     let words = 5_232_646 * 11;
     let mut original = Original::new(words);
     let mut proved = Proved {
+        bank: [0; BANK_WORDS],
         words: vec![1; words],
     };
     println!(

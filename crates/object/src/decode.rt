@@ -113,12 +113,22 @@ fn origin(copy: bool, s: &[u8], at: usize) -> ThirtySeconds
     }
 }
 
+// What depends on the kind comes first: the other reads then stand in one block, where the compiler makes one load of two bytes.
 fn fields(s: &[u8], pointer: usize, copy: bool) -> ObjBg
     requires { ⌜ pointer ≤ 8 ⌝ }
     requires { ⌜ sizeOf pointer copy ≤ length (now s) ⌝ }
     ensures { λ r. ⌜ r ≡ decode pointer copy (now (s .entry)) ⌝ }
 {
     ObjBg {
+        tmem_w: copy_half(copy, s, 24 + pointer),
+        tmem_h: copy_half(copy, s, 26 + pointer),
+        tmem_load_sh: copy_half(copy, s, 28 + pointer),
+        tmem_load_th: copy_half(copy, s, 30 + pointer),
+        tmem_size_w: copy_half(copy, s, 32 + pointer),
+        tmem_size: copy_half(copy, s, 34 + pointer),
+        scale_w: scale(copy, s, 24 + pointer),
+        scale_h: scale(copy, s, 26 + pointer),
+        image_y_orig: origin(copy, s, 28 + pointer),
         image_x: image_place(s, 0),
         image_w: width(s, 2),
         frame_x: frame_place(s, 4),
@@ -133,15 +143,6 @@ fn fields(s: &[u8], pointer: usize, copy: bool) -> ObjBg
         image_siz: byte(s, 19 + pointer),
         image_pal: half(s, 20 + pointer),
         image_flip: half(s, 22 + pointer),
-        tmem_w: copy_half(copy, s, 24 + pointer),
-        tmem_h: copy_half(copy, s, 26 + pointer),
-        tmem_load_sh: copy_half(copy, s, 28 + pointer),
-        tmem_load_th: copy_half(copy, s, 30 + pointer),
-        tmem_size_w: copy_half(copy, s, 32 + pointer),
-        tmem_size: copy_half(copy, s, 34 + pointer),
-        scale_w: scale(copy, s, 24 + pointer),
-        scale_h: scale(copy, s, 26 + pointer),
-        image_y_orig: origin(copy, s, 28 + pointer),
     }
 }
 
