@@ -41,12 +41,7 @@ fn steps(start: Planner, bank: &mut [u64], kept: bool, plan: &mut [u64]) -> End
     ensures { λ r. ⌜ StepsTo kept (coming start) (now (plan .entry)) (now (bank .entry)) (now (plan .exit)) (now (bank .exit)) r ⌝ }
 {
     let stride = stride(kept);
-    let mut places = Places {
-        tile0: 0,
-        tile7: 0,
-        bounds0: 0,
-        bounds7: 0,
-    };
+    let mut places = words::no_places();
     let mut p = start;
     let mut n = start.counts;
     let mut verdict = Verdict::Full;

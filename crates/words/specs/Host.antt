@@ -8,7 +8,7 @@ use native.Mathlib.Omega.{arith}
 use lib.Dec.{ltb}
 use lib.ListN.{length, take, drop, getD, set, length-append, length-set}
 use lib.Seq.{paste, take-append-add, drop-append-add, set-out}
-use borrow.Author.Tests.{ltb-true, ltb-false}
+use borrow.Author.Tests.{le-ltb, ltb-true, ltb-false}
 use Rattle.object.specs.Check.{verdictNumber}
 use Rattle.tile.specs.declared.bank.Tile.{Tile}
 use Rattle.tile.specs.declared.bank.Bank.{Bank}
@@ -70,6 +70,14 @@ unfoldable pub runWords : Plan → (buf ws : List ℕ) → RanWords
 runWords p buf ws =
     let cut = cutAt (length buf) p in
     record { buffer = planWords (cut .entries) ++ drop (11 * length (cut .entries)) buf; bank = wordsAfter ws (cut .entries ++ cut .left); end = endOf cut }
+
+-- a plan without entries leaves all words as they are, in the bank too, whether they are a bank's or not
+pub nothing-written : (p : Plan) → p .entries ≡ [] → p .left ≡ [] → (buf ws : List ℕ) → (runWords p buf ws .buffer ≡ buf) × (runWords p buf ws .bank ≡ ws)
+unfolding runWords cutAt planWords wordsAfter
+nothing-written p e l buf ws =
+    let few = ap length e in
+    let uncut : cutAt (length buf) p ≡ p = rw (le-ltb (length buf / 11) (length (p .entries)) (omega arith)) in
+    (ap (λ (q : Plan). planWords (q .entries) ++ drop (11 * length (q .entries)) buf) uncut ∙ ap (λ (es : List Entry). planWords es ++ drop (11 * length es) buf) e, ap (λ (q : Plan). wordsAfter ws (q .entries ++ q .left)) uncut ∙ rw (e, l))
 
 -- ---- on the numbers of a bank, this is document 01's run
 

@@ -6,7 +6,7 @@ ghost use lib.Seq.{paste};
 ghost use Rattle.plan.specs.Sound.{EntryIn};
 ghost use Rattle.plan.specs.Run.{entryWords};
 ghost use Rattle.words.specs.Counts.{Countable, countedOf};
-ghost use Rattle.words.specs.Places.{tilePlaced, placedOf};
+ghost use Rattle.words.specs.Places.{noPlaces, tilePlaced, placedOf};
 use crate::buffer::store;
 use crate::count::Counts;
 use crate::count::counted;
@@ -24,6 +24,18 @@ pub struct Places {
     pub tile7: usize,
     pub bounds0: usize,
     pub bounds7: usize,
+}
+
+// No entry has set a tile yet.
+pub fn no_places() -> Places
+    ensures { λ r. ⌜ r ≡ noPlaces ⌝ }
+{
+    Places {
+        tile0: 0,
+        tile7: 0,
+        bounds0: 0,
+        bounds7: 0,
+    }
 }
 
 // What is known once an entry is given.

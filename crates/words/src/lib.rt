@@ -16,4 +16,5 @@ pub use entry::entry_words;
 pub use giving::Gave;
 pub use giving::Places;
 pub use giving::give;
+pub use giving::no_places;
 pub use host::end_into;

@@ -25,8 +25,11 @@ abbrev μ-loop : tie.MeasureT-loop
 stride-requires : tie.Need-stride-requires Inv-loop μ-loop
 stride-requires c κs = search needs
 
+no-places-requires : tie.Need-no-places-requires Inv-loop μ-loop
+no-places-requires c κs = search needs
+
 loop-holds : tie.Need-loop-holds Inv-loop μ-loop
-loop-holds c = (going-start _ _ (c .before .before .before .before .pre .0) (c .before .before .before .before .pre .1) _ (c .before .before .before .before .pre .2) _, c .before .stride .ensures, refl, refl)
+loop-holds c = (rw (c .before .no-places .ensures) (going-start _ _ (c .before .before .before .before .before .pre .0) (c .before .before .before .before .before .pre .1) _ (c .before .before .before .before .before .pre .2) _), c .before .before .stride .ensures, refl, refl)
 
 step-requires : tie.Need-step-requires Inv-loop μ-loop
 step-requires c κs = c .loop .inv .0 .sound
@@ -35,7 +38,7 @@ enum-known-given : tie.Need-enum-known-given Inv-loop μ-loop
 enum-known-given c = search needs
 
 mul-at : tie.Need-mul-at Inv-loop μ-loop
-mul-at c = let l = c .before .before .before .before .loop in omega (arith, at-in _ (l .inv .0), still-long _ (l .inv .0), c .before .before .before .before .before .before .before .before .before .good .1 .1 .1 .0)
+mul-at c = let l = c .before .before .before .before .loop in omega (arith, at-in _ (l .inv .0), still-long _ (l .inv .0), c .before .before .before .before .before .before .before .before .before .before .good .1 .1 .1 .0)
 
 sub-if1 : tie.Need-sub-if1 Inv-loop μ-loop
 sub-if1 c = let l = c .before .before .before .before .loop in at-in _ (l .inv .0)
@@ -59,7 +62,7 @@ loop-again c =
     let s = c .before .before .before .before .before .before .before .before .before .before .before .step in
     let g = c .before .before .before .before .before .give in
     let w = at-in _ (l .inv .0) in
-    let place = ap (λ (m : Counts). m .entries * c .before .before .before .before .before .before .before .before .before .before .before .before .before .before .stride .result) (g .ensures .1) ∙ next-place (c .before .before .before .before .before .before .before .before .before .before .before .before .before .before .before .before .before .args .kept) _ (l .inv .1) _ _ in
+    let place = ap (λ (m : Counts). m .entries * c .before .before .before .before .before .before .before .before .before .before .before .before .before .before .before .stride .result) (g .ensures .1) ∙ next-place (c .before .before .before .before .before .before .before .before .before .before .before .before .before .before .before .before .before .before .args .kept) _ (l .inv .1) _ _ in
     (going-more _ _ _ _ _ _ _ _ (l .inv .0) (s .result) (s .ensures) _ (c .before .before .before .before .before .before .before .before .before .given .given .1) _ _ _ _ (g .ensures .0) (g .ensures .1) (g .ensures .2) place (omega (arith, w, c .before .before .before .before .before .before .before .if1 .left)), l .inv .1, l .inv .2, l .inv .3)
 
 enum-known-given-2 : tie.Need-enum-known-given-2 Inv-loop μ-loop
@@ -120,6 +123,7 @@ steps-spec =
     Inv-loop
     μ-loop
     stride-requires
+    no-places-requires
     loop-holds
     step-requires
     enum-known-given
