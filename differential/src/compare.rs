@@ -151,90 +151,27 @@ fn compare(case: &Case, buffers: &mut Buffers, tally: &mut Tally) -> Option<Stri
         }
         let expected = expected.as_ref().unwrap_or(&whole);
         tally.run(&case.record, &expected.end);
-        let mark = random.next();
-        let before = bank_words(case, mark);
-        let status = run_proved(case, room, mark, &before, buffers);
-        if let Some(text) = difference(&whole.plan.entries, expected, status, &before, buffers) {
+        let status = run_proved(case, room, random.next(), buffers);
+        if let Some(text) = difference(&whole.plan.entries, expected, status, buffers) {
             return Some(format!("buffer of {room} words\n{text}"));
         }
     }
     None
 }
 
-/// The bits of a tile's field.
-fn width(place: usize) -> u32 {
-    if (6..15).contains(&place) {
-        8
-    } else {
-        16
-    }
-}
-
-/// The bank before a run; a wide one has the mark above its fields.
-fn bank_words(case: &Case, mark: u64) -> [u64; BANK_WORDS] {
-    let mut bank = [0; BANK_WORDS];
+fn run_proved(case: &Case, room: usize, mark: u64, buffers: &mut Buffers) -> u64 {
+    let bank = buffers.bank.fill(BANK_WORDS, mark);
     for (words, tile) in bank.chunks_mut(17).zip(&initial_bank(case.bank_seed)) {
         words.copy_from_slice(&tile_fields(tile));
         if case.wide_bank {
             for (place, word) in words.iter_mut().enumerate() {
-                *word += mark << width(place);
+                *word += mark << if (6..15).contains(&place) { 8 } else { 16 };
             }
         }
     }
-    bank
-}
-
-fn run_proved(
-    case: &Case,
-    room: usize,
-    mark: u64,
-    before: &[u64; BANK_WORDS],
-    buffers: &mut Buffers,
-) -> u64 {
-    let bank = buffers.bank.fill(BANK_WORDS, mark);
-    bank.copy_from_slice(before);
     let plan = buffers.plan.fill(room, mark);
     let end = buffers.end.fill(END_WORDS, mark);
     proved::run(&case.object, &case.request, bank, plan, end)
-}
-
-/// Which words of the bank the entries set: a tile's parts, or its bounds with width and height.
-fn set_by(entries: &[entry::Entry]) -> [bool; BANK_WORDS] {
-    let mut set = [false; BANK_WORDS];
-    for entry in entries {
-        let first = 17 * entry[1] as usize;
-        match entry[0] {
-            entry::TILE => set[first + 6..first + 17].fill(true),
-            entry::SIZE | entry::LOAD => set[first..first + 6].fill(true),
-            _ => {}
-        }
-    }
-    set
-}
-
-/// The bank's words, held against the Rust's tiles where an entry sets them and else against what
-/// they were. A load that is refused may have set tile 7's bounds.
-fn bank_difference(
-    entries: &[entry::Entry],
-    expected: &Answer,
-    before: &[u64; BANK_WORDS],
-    given: &[u64],
-) -> Option<String> {
-    let set = set_by(entries);
-    let fields = expected.bank.iter().flat_map(tile_fields);
-    for (n, field) in fields.enumerate() {
-        let (tile, place) = (n / 17, n % 17);
-        let kept = field == before[n] % (1 << width(place)) && given[n] == before[n];
-        let put = given[n] == field;
-        let may = expected.end.verdict == 9 && tile == 7 && place < 6;
-        if !(if set[n] { put } else { kept || may && put }) {
-            return Some(format!(
-                "tile {tile}, word {place}: {} before, Rust {field}, proved {}\n",
-                before[n], given[n]
-            ));
-        }
-    }
-    None
 }
 
 fn numbers(end: &End) -> [u64; END_WORDS] {
@@ -261,7 +198,6 @@ fn difference(
     entries: &[entry::Entry],
     expected: &Answer,
     status: u64,
-    before: &[u64; BANK_WORDS],
     buffers: &Buffers,
 ) -> Option<String> {
     let mut text = String::new();
@@ -282,8 +218,17 @@ fn difference(
             break;
         }
     }
-    let given = buffers.bank.inside();
-    text.extend(bank_difference(&entries[..count], expected, before, given));
+    for (n, (tile, given)) in expected
+        .bank
+        .iter()
+        .zip(buffers.bank.inside().chunks(17))
+        .enumerate()
+    {
+        let fields = tile_fields(tile);
+        if given != fields {
+            writeln!(text, "tile {n}: Rust {fields:?}\n  proved {given:?}").unwrap();
+        }
+    }
     if !buffers.plan.untouched_but(11 * count) {
         text.push_str(
             "words of the plan buffer beyond the last entry, or around it, are changed\n",

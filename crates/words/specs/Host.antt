@@ -3,7 +3,7 @@
 use mathlib.Core.Path.{_≡_, refl, sym, ap, _∙_}
 use mathlib.Core.Bool.{Bool, true, false, cond}
 use mathlib.Core.List.{List, [], _∷_, _++_, append-assoc}
-use Prim.Native.Nat.{ℕ, zero, suc, _+_, _*_, _/_, _≤_, _<_}
+use Prim.Native.Nat.{ℕ, zero, suc, _+_, _*_, _/_, _%_, _^_, _≤_, _<_}
 use native.Mathlib.Omega.{arith}
 use lib.Dec.{ltb}
 use lib.ListN.{length, take, drop, getD, set, length-append, length-set}
@@ -22,6 +22,43 @@ use Rattle.plan.specs.Run.{descriptor, bankStep, bankAfter, bankOf, planWords, 
 
 unfoldable pub bankNumbers : Bank → List ℕ
 bankNumbers b = tilesNumbers (b .tiles)
+
+-- a number cut to its field's width
+abbrev pub halfAt : List ℕ → ℕ → ℕ
+halfAt ns k = getD ns k 0 % 2 ^ 16
+
+abbrev pub byteAt : List ℕ → ℕ → ℕ
+byteAt ns k = getD ns k 0 % 2 ^ 8
+
+unfoldable pub tileFrom : List ℕ → Tile
+tileFrom ns =
+    record {
+      uls = halfAt ns 0;
+      ult = halfAt ns 1;
+      lrs = halfAt ns 2;
+      lrt = halfAt ns 3;
+      width = halfAt ns 4;
+      height = halfAt ns 5;
+      fmt = byteAt ns 6;
+      siz = byteAt ns 7;
+      palette = byteAt ns 8;
+      cms = byteAt ns 9;
+      cmt = byteAt ns 10;
+      masks = byteAt ns 11;
+      maskt = byteAt ns 12;
+      shifts = byteAt ns 13;
+      shiftt = byteAt ns 14;
+      line = halfAt ns 15;
+      «tmem_addr» = halfAt ns 16;
+    }
+
+unfoldable pub tilesFrom : ℕ → List ℕ → List Tile
+tilesFrom zero ns = []
+tilesFrom (suc n) ns = tileFrom ns ∷ tilesFrom n (drop 17 ns)
+
+-- any 136 words give a bank
+unfoldable pub bankFrom : List ℕ → Bank
+bankFrom ns = record { tiles = tilesFrom 8 ns }
 
 -- D "9 end, returned and not stored (verdict, entries, rectangles, tile words)"
 unfoldable pub endNumbers : End → List ℕ
@@ -81,11 +118,11 @@ nothing-written p e l buf ws =
 
 -- ---- on the numbers of a bank, this is document 01's run
 
-seventeen : (t : Tile) → length (tileNumbers t) ≡ 17
+pub seventeen : (t : Tile) → length (tileNumbers t) ≡ 17
 unfolding tileNumbers
 seventeen t = refl
 
-each-seventeen : (ts : List Tile) → length (tilesNumbers ts) ≡ length ts * 17
+pub each-seventeen : (ts : List Tile) → length (tilesNumbers ts) ≡ length ts * 17
 unfolding tilesNumbers
 each-seventeen [] = refl
 each-seventeen (t ∷ ts) = length-append (tileNumbers t) (tilesNumbers ts) ∙ omega (arith, seventeen t, each-seventeen ts)

@@ -18,7 +18,7 @@ use Rattle.words.specs.declared.giving.Places.{Places}
 use Rattle.words.specs.Eleven.{eleven, eleven-each, words-append}
 use Rattle.words.specs.Host.{wordsStep, wordsAfter, after-more}
 use Rattle.words.specs.Over.{setTo, to-length, to-apart, to-over, in-sets}
-use Rattle.words.specs.Places.{noPlaces, placedOf, tileFrom, boundsFrom, settledOf, BoundsIn, PlacesIn}
+use Rattle.words.specs.Places.{noPlaces, placedOf, tileSettled, boundsSettled, settledOf, BoundsIn, PlacesIn}
 
 -- ---- what entries set, apart and over each other
 
@@ -252,7 +252,7 @@ module _ (given : List Entry) (out rest : List ℕ) (written : out ≡ planWords
         let n = length-append (entryWords e) (planWords (s .after)) in
         omega (arith, s .at, eleven-each (s .before), eleven e)
 
-  tile-read : (i : ℕ) (x : Last) → LastIs given place (Describes i) x → (ws : List ℕ) → tileFrom ws i out place ≡ leave ws x
+  tile-read : (i : ℕ) (x : Last) → LastIs given place (Describes i) x → (ws : List ℕ) → tileSettled ws i out place ≡ leave ws x
   unfolding leave wordsStep entryWords
   tile-read i none h ws = rw h
   tile-read i (one (entry.Image fmt siz width address)) h ws = absurd (h .1)
@@ -264,7 +264,7 @@ module _ (given : List Entry) (out rest : List ℕ) (written : out ≡ planWords
   tile-read i (one (entry.Load j uls ult lrs lrt words rows stride start len)) h ws = absurd (h .1)
   tile-read i (one (entry.Rect j ulx uly lrx lry uls ult dsdx dtdy row)) h ws = absurd (h .1)
 
-  bounds-read : (i : ℕ) (x : Last) → LastIs given place (Bounds i) x → (ws : List ℕ) → boundsFrom ws i out place ≡ leave ws x
+  bounds-read : (i : ℕ) (x : Last) → LastIs given place (Bounds i) x → (ws : List ℕ) → boundsSettled ws i out place ≡ leave ws x
   unfolding leave wordsStep entryWords
   bounds-read i none h ws = rw h
   bounds-read i (one (entry.Image fmt siz width address)) h ws = absurd (h .1)

@@ -32,15 +32,15 @@ tileAt ws i out place =
 abbrev pub boundsAt : (ws : List ℕ) (i : ℕ) (out : List ℕ) (place : ℕ) → List ℕ
 boundsAt ws i out place = boundsIn ws i (getD out (place + 1) 0) (getD out (place + 2) 0) (getD out (place + 3) 0) (getD out (place + 4) 0)
 
-abbrev pub tileFrom : (ws : List ℕ) (i : ℕ) (out : List ℕ) (place : ℕ) → List ℕ
-tileFrom ws i out place = cond (eqb place 0) ws (tileAt ws i out place)
+abbrev pub tileSettled : (ws : List ℕ) (i : ℕ) (out : List ℕ) (place : ℕ) → List ℕ
+tileSettled ws i out place = cond (eqb place 0) ws (tileAt ws i out place)
 
-abbrev pub boundsFrom : (ws : List ℕ) (i : ℕ) (out : List ℕ) (place : ℕ) → List ℕ
-boundsFrom ws i out place = cond (eqb place 0) ws (boundsAt ws i out place)
+abbrev pub boundsSettled : (ws : List ℕ) (i : ℕ) (out : List ℕ) (place : ℕ) → List ℕ
+boundsSettled ws i out place = cond (eqb place 0) ws (boundsAt ws i out place)
 
 -- D "Setting one keeps its four bounds", "Setting bounds also sets width": the last entry of each kind
 unfoldable pub settledOf : (ws out : List ℕ) → Places → List ℕ
-settledOf ws out p = boundsFrom (boundsFrom (tileFrom (tileFrom ws 0 out (p .tile0)) 7 out (p .tile7)) 0 out (p .bounds0)) 7 out (p .bounds7)
+settledOf ws out p = boundsSettled (boundsSettled (tileSettled (tileSettled ws 0 out (p .tile0)) 7 out (p .tile7)) 0 out (p .bounds0)) 7 out (p .bounds7)
 
 -- the bounds at a place have 16 bits
 pub record BoundsIn (out : List ℕ) (place : ℕ) : Type 0 where

@@ -4,14 +4,12 @@ ghost use Prim.Native.Nat.{_+_, _≤_, _<_};
 ghost use lib.ListN.{length};
 ghost use Rattle.plan.specs.Sound.{Narrow};
 ghost use Rattle.words.specs.Host.{tileIn, boundsIn, wordsStep};
-ghost use Rattle.words.specs.Places.{BoundsIn, PlacesIn, tileAt, boundsAt, tileFrom, boundsFrom, settledOf};
+ghost use Rattle.words.specs.Places.{BoundsIn, PlacesIn, tileAt, boundsAt, tileSettled, boundsSettled, settledOf};
 use crate::buffer::put;
 use crate::giving::Places;
+use crate::host::TILE;
 use plan::Entry;
 use tile::texels;
-
-// A tile's words: its fields in their order.
-const TILE: usize = 17;
 
 // Sets all of a tile but its bounds, width and height; nothing where there is no such tile.
 fn set_tile(
@@ -139,18 +137,18 @@ fn bounds_at(bank: &mut [u64], index: u64, plan: &[u64], place: usize)
     );
 }
 
-fn tile_from(bank: &mut [u64], index: u64, plan: &[u64], place: usize)
+fn settle_tile(bank: &mut [u64], index: u64, plan: &[u64], place: usize)
     requires { ⌜ (1 ≤ place → place + 9 < length (now plan)) ⌝ }
-    ensures { λ _. ⌜ now (bank .exit) ≡ tileFrom (now (bank .entry)) index (now (plan .entry)) place ⌝ }
+    ensures { λ _. ⌜ now (bank .exit) ≡ tileSettled (now (bank .entry)) index (now (plan .entry)) place ⌝ }
 {
     if place != 0 {
         tile_at(&mut *bank, index, plan, place);
     }
 }
 
-fn bounds_from(bank: &mut [u64], index: u64, plan: &[u64], place: usize)
+fn settle_bounds(bank: &mut [u64], index: u64, plan: &[u64], place: usize)
     requires { ⌜ (1 ≤ place → BoundsIn (now plan) place) ⌝ }
-    ensures { λ _. ⌜ now (bank .exit) ≡ boundsFrom (now (bank .entry)) index (now (plan .entry)) place ⌝ }
+    ensures { λ _. ⌜ now (bank .exit) ≡ boundsSettled (now (bank .entry)) index (now (plan .entry)) place ⌝ }
 {
     if place != 0 {
         bounds_at(&mut *bank, index, plan, place);
@@ -162,8 +160,8 @@ pub fn settle(bank: &mut [u64], places: Places, plan: &[u64])
     requires { ⌜ PlacesIn (now plan) places ⌝ }
     ensures { λ _. ⌜ now (bank .exit) ≡ settledOf (now (bank .entry)) (now (plan .entry)) places ⌝ }
 {
-    tile_from(&mut *bank, 0, plan, places.tile0);
-    tile_from(&mut *bank, 7, plan, places.tile7);
-    bounds_from(&mut *bank, 0, plan, places.bounds0);
-    bounds_from(&mut *bank, 7, plan, places.bounds7);
+    settle_tile(&mut *bank, 0, plan, places.tile0);
+    settle_tile(&mut *bank, 7, plan, places.tile7);
+    settle_bounds(&mut *bank, 0, plan, places.bounds0);
+    settle_bounds(&mut *bank, 7, plan, places.bounds7);
 }

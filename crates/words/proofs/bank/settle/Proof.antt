@@ -4,32 +4,32 @@ use Rattle.words.specs.Places.{settledOf}
 use Rattle.words.proofs.bank.settle.Statement.{statement}
 use Rattle.words.proofs.bank.settle.Tie as tie
 
-tile-from-requires : tie.Need-tile-from-requires
-tile-from-requires c κs = search needs
+settle-tile-requires : tie.Need-settle-tile-requires
+settle-tile-requires c κs = search needs
 
-tile-from-requires-2 : tie.Need-tile-from-requires-2
-tile-from-requires-2 c κs = search needs
+settle-tile-requires-2 : tie.Need-settle-tile-requires-2
+settle-tile-requires-2 c κs = search needs
 
-bounds-from-requires : tie.Need-bounds-from-requires
-bounds-from-requires c κs = search needs
+settle-bounds-requires : tie.Need-settle-bounds-requires
+settle-bounds-requires c κs = search needs
 
-bounds-from-requires-2 : tie.Need-bounds-from-requires-2
-bounds-from-requires-2 c κs = search needs
+settle-bounds-requires-2 : tie.Need-settle-bounds-requires-2
+settle-bounds-requires-2 c κs = search needs
 
 same-length : tie.Need-same-length
 same-length c = search needs
 
 returns : tie.Need-returns
 unfolding settledOf
-returns c = rw (c .before .before .bounds-from2 .ensures, c .before .before .before .before .before .before .bounds-from .ensures, c .before .before .before .before .before .before .before .before .before .before .tile-from2 .ensures, c .before .before .before .before .before .before .before .before .before .before .before .before .before .before .tile-from .ensures)
+returns c = rw (c .before .before .settle-bounds2 .ensures, c .before .before .before .before .before .before .settle-bounds .ensures, c .before .before .before .before .before .before .before .before .before .before .settle-tile2 .ensures, c .before .before .before .before .before .before .before .before .before .before .before .before .before .before .settle-tile .ensures)
 
 pub settle-spec : {M : Type 1} → statement M
 settle-spec =
     tie.close
     (tie.spec
-    tile-from-requires
-    tile-from-requires-2
-    bounds-from-requires
-    bounds-from-requires-2
+    settle-tile-requires
+    settle-tile-requires-2
+    settle-bounds-requires
+    settle-bounds-requires-2
     same-length
     returns)

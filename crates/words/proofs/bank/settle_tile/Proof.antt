@@ -1,10 +1,10 @@
--- `words::bank::tile_from` meets its contract: the tile is set by the entry where there is one. Assumes nothing.
+-- `words::bank::settle_tile` meets its contract: the tile is set by the entry where there is one. Assumes nothing.
 use mathlib.Core.Path.{_≡_}
 use native.Mathlib.Omega.{arith}
 use borrow.Author.Needs.{needs}
 use borrow.Author.Tests.{eq-eqb, ne-eqb}
-use Rattle.words.proofs.bank.tile_from.Statement.{statement}
-use Rattle.words.proofs.bank.tile_from.Tie as tie
+use Rattle.words.proofs.bank.settle_tile.Statement.{statement}
+use Rattle.words.proofs.bank.settle_tile.Tie as tie
 
 tile-at-requires : tie.Need-tile-at-requires
 tile-at-requires c κs = c .before .before .before .before .pre (omega (arith, c .before .if1 .taken))
@@ -18,5 +18,5 @@ returns c = rw (ne-eqb _ _ (c .before .before .before .before .if1 .taken)) (c .
 returns-2 : tie.Need-returns-2
 returns-2 c = rw (eq-eqb _ _ (c .if1 .left))
 
-pub tile-from-spec : {M : Type 1} → statement M
-tile-from-spec = tie.close (tie.spec tile-at-requires same-length returns returns-2)
+pub settle-tile-spec : {M : Type 1} → statement M
+settle-tile-spec = tie.close (tie.spec tile-at-requires same-length returns returns-2)

@@ -1,10 +1,10 @@
--- `words::bank::bounds_from` meets its contract: the bounds are set by the entry where there is one. Assumes nothing.
+-- `words::bank::settle_bounds` meets its contract: the bounds are set by the entry where there is one. Assumes nothing.
 use mathlib.Core.Path.{_≡_}
 use native.Mathlib.Omega.{arith}
 use borrow.Author.Needs.{needs}
 use borrow.Author.Tests.{eq-eqb, ne-eqb}
-use Rattle.words.proofs.bank.bounds_from.Statement.{statement}
-use Rattle.words.proofs.bank.bounds_from.Tie as tie
+use Rattle.words.proofs.bank.settle_bounds.Statement.{statement}
+use Rattle.words.proofs.bank.settle_bounds.Tie as tie
 
 bounds-at-requires : tie.Need-bounds-at-requires
 bounds-at-requires c κs = c .before .before .before .before .pre (omega (arith, c .before .if1 .taken))
@@ -18,5 +18,5 @@ returns c = rw (ne-eqb _ _ (c .before .before .before .before .if1 .taken)) (c .
 returns-2 : tie.Need-returns-2
 returns-2 c = rw (eq-eqb _ _ (c .if1 .left))
 
-pub bounds-from-spec : {M : Type 1} → statement M
-bounds-from-spec = tie.close (tie.spec bounds-at-requires same-length returns returns-2)
+pub settle-bounds-spec : {M : Type 1} → statement M
+settle-bounds-spec = tie.close (tie.spec bounds-at-requires same-length returns returns-2)
