@@ -103,14 +103,16 @@ fn refused_by(test: bool, verdict: Verdict, rest: Checked) -> Checked
 fn object_checked(copy: bool, bg: ObjBg) -> Checked
     ensures { λ r. ⌜ r ≡ objectOf copy bg ⌝ }
 {
-    let object = object_bad(bg);
-    if copy {
-        let format = copy_bad(bg);
-        let rest = refused_by(format, Verdict::Copy, Checked::Copy(bg));
-        refused_by(object, Verdict::Object, rest)
-    } else {
-        refused_by(object, Verdict::Object, Checked::Scaled(bg))
+    if object_bad(bg) {
+        return Checked::Refused(Verdict::Object);
     }
+    if copy {
+        if copy_bad(bg) {
+            return Checked::Refused(Verdict::Copy);
+        }
+        return Checked::Copy(bg);
+    }
+    Checked::Scaled(bg)
 }
 
 pub fn checked(object: &[u8], opcode: u8, scissor: Scissor) -> Checked

@@ -1,40 +1,41 @@
--- `object::check::object_checked` meets its contract: the calls, backwards, in each arm.
-use Rattle.object.specs.Check.{objectOf}
+-- `object::check::object_checked` meets its contract: each test decides one step of the definition. Assumes nothing.
+use mathlib.Core.Path.{_≡_, sym, _∙_}
+use mathlib.Core.Bool.{Bool, true, false}
 use borrow.Author.Needs.{needs}
+use Rattle.object.specs.declared.types.ObjBg.{ObjBg}
+use Rattle.object.specs.declared.types.Checked.the-variants as checked
+use Rattle.object.specs.declared.types.Verdict.the-variants as verdict
+use Rattle.object.specs.Check.{any, objectFaults, objectOf}
 use Rattle.object.proofs.check.object_checked.Statement.{statement}
 use Rattle.object.proofs.check.object_checked.Tie as tie
+
+bad : (copy : Bool) (bg : ObjBg) → any (objectFaults bg) ≡ true → checked.Refused verdict.Object ≡ objectOf copy bg
+unfolding objectOf
+bad true bg h = rw h
+bad false bg h = rw h
 
 object-bad-requires : tie.Need-object-bad-requires
 object-bad-requires c κs = search needs
 
+returns : tie.Need-returns
+returns c = bad _ _ (sym (c .before .object-bad .ensures) ∙ c .if1 .taken)
+
 copy-bad-requires : tie.Need-copy-bad-requires
 copy-bad-requires c κs = search needs
 
-refused-by-requires : tie.Need-refused-by-requires
-refused-by-requires c κs = search needs
-
-refused-by-requires-2 : tie.Need-refused-by-requires-2
-refused-by-requires-2 c κs = search needs
-
-refused-by-requires-3 : tie.Need-refused-by-requires-3
-refused-by-requires-3 c κs = search needs
-
-returns : tie.Need-returns
-unfolding objectOf
-returns c = rw (c .refused-by2 .ensures, c .before .refused-by .ensures, c .before .before .copy-bad .ensures, c .before .before .before .before .object-bad .ensures, c .before .before .before .if1 .taken)
-
 returns-2 : tie.Need-returns-2
 unfolding objectOf
-returns-2 c = rw (c .refused-by3 .ensures, c .before .before .object-bad .ensures, c .before .if1 .left)
+returns-2 c = rw (c .before .before .if2 .taken, ← c .before .before .before .before .object-bad .ensures, c .before .before .before .if1 .left, ← c .before .copy-bad .ensures, c .if3 .taken)
+
+returns-3 : tie.Need-returns-3
+unfolding objectOf
+returns-3 c = rw (c .before .before .if2 .taken, ← c .before .before .before .before .object-bad .ensures, c .before .before .before .if1 .left, ← c .before .copy-bad .ensures, c .if3 .left)
+
+returns-4 : tie.Need-returns-4
+unfolding objectOf
+returns-4 c = rw (c .if2 .left, ← c .before .before .object-bad .ensures, c .before .if1 .left)
 
 pub object-checked-spec : {M : Type 1} → statement M
 object-checked-spec =
     tie.close
-    (tie.spec
-    object-bad-requires
-    copy-bad-requires
-    refused-by-requires
-    refused-by-requires-2
-    refused-by-requires-3
-    returns
-    returns-2)
+    (tie.spec object-bad-requires returns copy-bad-requires returns-2 returns-3 returns-4)
