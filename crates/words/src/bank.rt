@@ -137,6 +137,7 @@ fn bounds_at(bank: &mut [u64], index: u64, plan: &[u64], place: usize)
     );
 }
 
+// The same where there is such an entry: 0 is no place.
 fn settle_tile(bank: &mut [u64], index: u64, plan: &[u64], place: usize)
     requires { ⌜ (1 ≤ place → place + 9 < length (now plan)) ⌝ }
     ensures { λ _. ⌜ now (bank .exit) ≡ tileSettled (now (bank .entry)) index (now (plan .entry)) place ⌝ }
@@ -146,6 +147,7 @@ fn settle_tile(bank: &mut [u64], index: u64, plan: &[u64], place: usize)
     }
 }
 
+// Likewise the bounds.
 fn settle_bounds(bank: &mut [u64], index: u64, plan: &[u64], place: usize)
     requires { ⌜ (1 ≤ place → BoundsIn (now plan) place) ⌝ }
     ensures { λ _. ⌜ now (bank .exit) ≡ boundsSettled (now (bank .entry)) index (now (plan .entry)) place ⌝ }
