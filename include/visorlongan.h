@@ -18,15 +18,15 @@ extern "C" {
 /* request: opcode (9 scaled, 10 copy), scissor ulx uly lrx lry (signed), render mode (its low 32 bits count), image address */
 #define BG_REQUEST_WORDS 7
 /* bank: eight tiles, each uls ult lrs lrt width height fmt siz palette cms cmt masks maskt shifts shiftt line tmem;
-   fmt to shiftt are read modulo 2^8, the others modulo 2^16 */
+   a run writes the words that its entries set and reads none, so that any values may stand there */
 #define BG_BANK_WORDS 136
 /* an entry: kind, then its numbers, signed ones modulo 2^64, then zeros */
 #define BG_ENTRY_WORDS 11
 /* end: verdict (0 to 10), entries, rectangles, tile words */
 #define BG_END_WORDS 4
 
-/* A whole run. Answers 0: the entries stand in plan from its first word on, words beyond the last entry are unchanged, bank is
-   as the run leaves it, and end has the four numbers. Verdict 10 says that plan had no room for another entry.
+/* A whole run. Answers 0: the entries stand in plan from its first word on, what they set of the tiles stands in bank, end has
+   the four numbers, and all other words are unchanged. Verdict 10 says that plan had no room for another entry.
    Answers 1, and changes nothing, where request, bank or end has another number of words than above. */
 uint64_t bg_run(const uint8_t *object, size_t object_bytes, const uint64_t *request, size_t request_words, uint64_t *bank,
                 size_t bank_words, uint64_t *plan, size_t plan_words, uint64_t *end, size_t end_words);

@@ -16,7 +16,8 @@ pub struct Case {
     /// record, the record has 65,535 or 0 in its place, which is refused just as well.
     pub request: [u64; REQUEST_WORDS],
     pub bank_seed: Option<u64>,
-    /// The bank's words have bits above their fields' widths, which are to be cut.
+    /// The bank's words have bits above their fields' widths, which stay where no entry sets the
+    /// word.
     pub wide_bank: bool,
     /// Chooses the buffers' lengths and what stands in them before.
     pub draw: u64,

@@ -41,6 +41,7 @@ use random::Random;
 use record::{initial_bank, tile_fields, Record, COPY, OBJECT_BYTES, RECORD_BYTES, SCALED};
 use run::{run, Answer, Settings};
 use std::fmt::Write;
+use std::ops::Range;
 use std::panic::{catch_unwind, AssertUnwindSafe};
 use std::sync::atomic::{AtomicBool, AtomicU64, Ordering};
 use std::sync::Mutex;
@@ -151,27 +152,102 @@ fn compare(case: &Case, buffers: &mut Buffers, tally: &mut Tally) -> Option<Stri
         }
         let expected = expected.as_ref().unwrap_or(&whole);
         tally.run(&case.record, &expected.end);
-        let status = run_proved(case, room, random.next(), buffers);
-        if let Some(text) = difference(&whole.plan.entries, expected, status, buffers) {
+        let mark = random.next();
+        let before = bank_words(case, mark);
+        let status = run_proved(case, room, mark, &before, buffers);
+        if let Some(text) = difference(&whole.plan.entries, expected, status, &before, buffers) {
             return Some(format!("buffer of {room} words\n{text}"));
         }
     }
     None
 }
 
-fn run_proved(case: &Case, room: usize, mark: u64, buffers: &mut Buffers) -> u64 {
-    let bank = buffers.bank.fill(BANK_WORDS, mark);
+/// The bits of a tile's field.
+fn width(place: usize) -> u32 {
+    if (6..15).contains(&place) {
+        8
+    } else {
+        16
+    }
+}
+
+/// The bank before a run; a wide one has the mark above its fields.
+fn bank_words(case: &Case, mark: u64) -> [u64; BANK_WORDS] {
+    let mut bank = [0; BANK_WORDS];
     for (words, tile) in bank.chunks_mut(17).zip(&initial_bank(case.bank_seed)) {
         words.copy_from_slice(&tile_fields(tile));
         if case.wide_bank {
             for (place, word) in words.iter_mut().enumerate() {
-                *word += mark << if (6..15).contains(&place) { 8 } else { 16 };
+                *word += mark << width(place);
             }
         }
     }
+    bank
+}
+
+fn run_proved(
+    case: &Case,
+    room: usize,
+    mark: u64,
+    before: &[u64; BANK_WORDS],
+    buffers: &mut Buffers,
+) -> u64 {
+    let bank = buffers.bank.fill(BANK_WORDS, mark);
+    bank.copy_from_slice(before);
     let plan = buffers.plan.fill(room, mark);
     let end = buffers.end.fill(END_WORDS, mark);
     proved::run(&case.object, &case.request, bank, plan, end)
+}
+
+/// The words of a tile's bounds, width and height, and those of its other parts.
+fn bounds_of(tile: u64) -> Range<usize> {
+    let first = 17 * tile as usize;
+    first..first + 6
+}
+
+fn parts_of(tile: u64) -> Range<usize> {
+    let first = 17 * tile as usize;
+    first + 6..first + 17
+}
+
+/// Which words of the bank a run sets: those of the entries that stand, and tile 7's bounds where the
+/// load after them is refused.
+fn set_by(entries: &[entry::Entry], expected: &Answer) -> [bool; BANK_WORDS] {
+    let mut set = [false; BANK_WORDS];
+    if expected.end.verdict == 9 && expected.plan.refused_load {
+        set[bounds_of(7)].fill(true);
+    }
+    for entry in entries {
+        match entry[0] {
+            entry::TILE => set[parts_of(entry[1])].fill(true),
+            entry::SIZE | entry::LOAD => set[bounds_of(entry[1])].fill(true),
+            _ => {}
+        }
+    }
+    set
+}
+
+/// The bank's words, held against the Rust's tiles where the run sets them and else against what
+/// they were, all 64 bits of them.
+fn bank_difference(
+    entries: &[entry::Entry],
+    expected: &Answer,
+    before: &[u64; BANK_WORDS],
+    given: &[u64],
+) -> Option<String> {
+    let set = set_by(entries, expected);
+    let fields = expected.bank.iter().flat_map(tile_fields);
+    for (n, field) in fields.enumerate() {
+        let (tile, place) = (n / 17, n % 17);
+        let kept = field == before[n] % (1 << width(place)) && given[n] == before[n];
+        if !(if set[n] { given[n] == field } else { kept }) {
+            return Some(format!(
+                "tile {tile}, word {place}: {} before, Rust {field}, proved {}\n",
+                before[n], given[n]
+            ));
+        }
+    }
+    None
 }
 
 fn numbers(end: &End) -> [u64; END_WORDS] {
@@ -198,6 +274,7 @@ fn difference(
     entries: &[entry::Entry],
     expected: &Answer,
     status: u64,
+    before: &[u64; BANK_WORDS],
     buffers: &Buffers,
 ) -> Option<String> {
     let mut text = String::new();
@@ -218,17 +295,8 @@ fn difference(
             break;
         }
     }
-    for (n, (tile, given)) in expected
-        .bank
-        .iter()
-        .zip(buffers.bank.inside().chunks(17))
-        .enumerate()
-    {
-        let fields = tile_fields(tile);
-        if given != fields {
-            writeln!(text, "tile {n}: Rust {fields:?}\n  proved {given:?}").unwrap();
-        }
-    }
+    let given = buffers.bank.inside();
+    text.extend(bank_difference(&entries[..count], expected, before, given));
     if !buffers.plan.untouched_but(11 * count) {
         text.push_str(
             "words of the plan buffer beyond the last entry, or around it, are changed\n",

@@ -101,6 +101,8 @@ pub struct Plan {
     /// A second hash, without image rows: equal for the untouched and the noted text.
     pub calls: u64,
     pub full: bool,
+    /// The last call was a load that was refused: it has set its tile's size, which is no entry.
+    pub refused_load: bool,
     pub bank_when_full: Option<Bank>,
     pub notes: Notes,
 }
@@ -117,6 +119,7 @@ impl Plan {
             hash: Fnv::new(),
             calls: 0,
             full: false,
+            refused_load: false,
             bank_when_full: None,
             notes: Notes {
                 least_remain: i64::MAX,

@@ -7,11 +7,10 @@ use borrow.Author.Tests.{eq-eqb, ne-eqb}
 use Rattle.plan.specs.declared.types.End.{End}
 use Rattle.plan.specs.Out.{Plan}
 use Rattle.plan.specs.Whole.{planOf}
-use Rattle.plan.specs.Run.{endOf, runOf}
+use Rattle.plan.specs.Run.{endOf}
 use Rattle.planner.specs.Coming.{requestOf}
-use Rattle.planner.specs.Ran.{RanIs, ran-is}
-use Rattle.words.specs.Host.{bankFrom, bankNumbers, endNumbers}
-use Rattle.words.specs.Cut.{eight-tiles}
+use Rattle.planner.specs.Ran.{RanIs}
+use Rattle.words.specs.Host.{runWords, endNumbers}
 use Rattle.request.specs.declared.types.Request.{Request}
 use Rattle.request.specs.Host.{withBytes, hostRequest}
 use Rattle.export.specs.Host.{left, ranLeft, hostRun, counted, hostCount}
@@ -29,16 +28,15 @@ module _ (object request bank plan end : List ℕ) where
   unfolding hostRun
   odd-end q b n = rw (eq-eqb (length request) 7 q, eq-eqb (length bank) 136 b, ne-eqb (length end) 4 n)
 
-  fitting : length request ≡ 7 → length bank ≡ 136 → length end ≡ 4 → ranLeft (runOf (planOf (hostRequest object request)) plan (bankFrom bank)) ≡ hostRun object request bank plan end
+  fitting : length request ≡ 7 → length bank ≡ 136 → length end ≡ 4 → ranLeft (runWords (planOf (hostRequest object request)) plan bank) ≡ hostRun object request bank plan end
   unfolding hostRun
   fitting q b e = rw (eq-eqb (length request) 7 q, eq-eqb (length bank) 136 b, eq-eqb (length end) 4 e)
 
-  pub ran : (x : Request) → ((bytes : List ℕ) → planOf (withBytes bytes x) ≡ planOf (hostRequest bytes request)) → (ws bank′ plan′ end′ : List ℕ) (r : End) → length request ≡ 7 → length bank ≡ 136 → length end ≡ 4 → ws ≡ bankNumbers (bankFrom bank)
-      → RanIs object (x .opcode) (x .scissor) (x .mode) (x .address) plan ws plan′ bank′ r → end′ ≡ endNumbers r → left 0 bank′ plan′ end′ ≡ hostRun object request bank plan end
-  ran x p ws bank′ plan′ end′ r q l m w h j =
-      let g = ran-is object (x .opcode) (x .scissor) (x .mode) (x .address) plan plan′ bank′ r (bankFrom bank) (eight-tiles bank) (rw w at h) in
-      (λ n. left 0 (g .1 n) (g .2 n) ((j ∙ ap endNumbers (g .0)) n))
-      ∙ ap (λ (z : Plan). ranLeft (runOf z plan (bankFrom bank))) (p object)
+  pub ran : (x : Request) → ((bytes : List ℕ) → planOf (withBytes bytes x) ≡ planOf (hostRequest bytes request)) → (bank′ plan′ end′ : List ℕ) (r : End) → length request ≡ 7 → length bank ≡ 136 → length end ≡ 4
+      → RanIs object (x .opcode) (x .scissor) (x .mode) (x .address) plan bank plan′ bank′ r → end′ ≡ endNumbers r → left 0 bank′ plan′ end′ ≡ hostRun object request bank plan end
+  ran x p bank′ plan′ end′ r q l m h j =
+      (λ n. left 0 (h .bank n) (h .buffer n) ((j ∙ ap endNumbers (h .end)) n))
+      ∙ ap (λ (z : Plan). ranLeft (runWords z plan bank)) (p object)
       ∙ fitting q l m
 
 module _ (object request end : List ℕ) where

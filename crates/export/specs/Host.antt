@@ -6,8 +6,8 @@ use Prim.Native.Nat.{ℕ}
 use lib.Dec.{eqb}
 use lib.ListN.{length}
 use Rattle.plan.specs.Whole.{planOf}
-use Rattle.plan.specs.Run.{Ran, endOf, runOf}
-use Rattle.words.specs.Host.{bankFrom, bankNumbers, endNumbers}
+use Rattle.plan.specs.Run.{endOf}
+use Rattle.words.specs.Host.{RanWords, runWords, endNumbers}
 use Rattle.request.specs.Host.{hostRequest}
 
 -- the answer, and the words of bank, plan and end as the call leaves them
@@ -20,14 +20,14 @@ pub record Left : Type 0 where
 abbrev pub left : ℕ → List ℕ → List ℕ → List ℕ → Left
 left answer bank plan end = record { answer = answer; bank = bank; plan = plan; end = end }
 
-abbrev pub ranLeft : Ran → Left
-ranLeft r = left 0 (bankNumbers (r .bank)) (r .buffer) (endNumbers (r .end))
+abbrev pub ranLeft : RanWords → Left
+ranLeft r = left 0 (r .bank) (r .buffer) (endNumbers (r .end))
 
--- a whole run, or 1 and nothing changed where request, bank or end has another number of words
+-- a whole run over the words as they stand, or 1 and nothing changed where request, bank or end has another number of words
 unfoldable pub hostRun : (object request bank plan end : List ℕ) → Left
 hostRun object request bank plan end =
     cond (eqb (length request) 7 && (eqb (length bank) 136 && eqb (length end) 4))
-    (ranLeft (runOf (planOf (hostRequest object request)) plan (bankFrom bank)))
+    (ranLeft (runWords (planOf (hostRequest object request)) plan bank))
     (left 1 bank plan end)
 
 -- the end of the whole plan, likewise

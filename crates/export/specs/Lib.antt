@@ -1,2 +1,3 @@
 -- What the exported functions leave to the host.
 pub mod Host
+pub mod Laws

@@ -1,7 +1,7 @@
 // The boundary to C: two functions over slices, each of which C passes as a pointer and a length. Words are 64 bits.
 //
 // request  7 words: opcode, scissor ulx uly lrx lry (signed), render mode (its low 32 bits), address
-// bank   136 words: eight tiles of seventeen; a word that is too large for its field is cut to it
+// bank   136 words: eight tiles of seventeen
 // end      4 words: verdict, entries, rectangles, tile words
 //
 // The object and the plan may have any length. A call with another number of words in one of the three answers 1 and changes nothing.
@@ -9,7 +9,7 @@
 ghost use mathlib.Core.Path.{_≡_};
 ghost use Rattle.export.specs.Host.{left, hostRun, counted, hostCount};
 
-// A whole run: the entries go to `plan`, eleven words each, and `bank` is as they leave it. Words of `plan` beyond the last entry stay as they are.
+// A whole run: the entries go to `plan`, eleven words each, and what they set of the tiles goes to `bank`. All other words stay as they are.
 #[no_mangle]
 pub extern "C" fn bg_run(
     object: &[u8],
@@ -30,7 +30,6 @@ pub extern "C" fn bg_run(
         return 1;
     }
     let q = request::from_words(request);
-    words::as_bank(&mut *bank);
     let ended = planner::run(
         object,
         q.opcode,

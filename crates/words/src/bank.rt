@@ -7,9 +7,11 @@ ghost use Rattle.words.specs.Host.{tileIn, boundsIn, wordsStep};
 ghost use Rattle.words.specs.Places.{BoundsIn, PlacesIn, tileAt, boundsAt, tileSettled, boundsSettled, settledOf};
 use crate::buffer::put;
 use crate::giving::Places;
-use crate::host::TILE;
 use plan::Entry;
 use tile::texels;
+
+// A tile's words: its fields in their order.
+const TILE: usize = 17;
 
 // Sets all of a tile but its bounds, width and height; nothing where there is no such tile.
 fn set_tile(

@@ -17,5 +17,4 @@ pub use giving::Gave;
 pub use giving::Places;
 pub use giving::give;
 pub use giving::no_places;
-pub use host::as_bank;
 pub use host::end_into;

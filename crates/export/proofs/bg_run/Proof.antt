@@ -16,9 +16,6 @@ returns-3 c = let a = c .before .before .before .before .before .before .before 
 from-words-requires : tie.Need-from-words-requires
 from-words-requires c κs = search needs
 
-as-bank-requires : tie.Need-as-bank-requires
-as-bank-requires c κs = search needs
-
 run-requires : tie.Need-run-requires
 run-requires c κs = search needs
 
@@ -37,8 +34,7 @@ same-length-3 c = search needs
 returns-4 : tie.Need-returns-4
 returns-4 c =
     let r = c .before .before .before .before .before .before .before .before in
-    let w = r .before .before .before .before .before in
-    let q = w .before .before in
+    let q = r .before .before .before in
     let a = q .before .before .before .before .before .before .before .before .before .args in
     ran (a .object .now) (a .request .now) (a .bank .now) (a .plan .now) (a .end .now)
     (q .from-words .result)
@@ -46,12 +42,10 @@ returns-4 c =
     _
     _
     _
-    _
     (r .run .result)
     (q .before .before .before .if1 .left)
     (q .before .before .if2 .left)
     (q .before .if3 .left)
-    (w .as-bank .ensures)
     (r .run .ensures)
     (c .before .before .end-into .ensures)
 
@@ -63,7 +57,6 @@ bg-run-spec =
     returns-2
     returns-3
     from-words-requires
-    as-bank-requires
     run-requires
     end-into-requires
     same-length
