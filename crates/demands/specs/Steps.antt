@@ -15,13 +15,27 @@ use Rattle.plan.specs.Whole.{planOf}
 use Rattle.plan.specs.Run.{endOf, bankStep, bankAfter}
 use Rattle.plan.specs.Steps.{Coming, comingOf, nextOf, answerOf, bankNext, answers, bankTo}
 use Rattle.planner.specs.declared.types.Planner.{Planner}
+use Rattle.planner.specs.declared.types.Step.{Step}
 use Rattle.planner.specs.declared.types.Stepped.{Stepped}
-use Rattle.planner.specs.Coming.{coming, Sound, StepIs, Fresh, requestOf}
+use Rattle.planner.specs.Coming.{coming, answerIn, Sound, StepGives, StepIs, Fresh, requestOf}
 
 -- steps one after another, each on the planner and the bank last handed back, with their answers
 pub data Steps : Planner → Bank → List Answer → Planner → Bank → Type 0 where
   none : {p : Planner} {b : Bank} → Steps p b [] p b
   step : {p : Planner} {b : Bank} {answered : List Answer} {p′ : Planner} {b′ : Bank} → (s : Stepped) → StepIs p b s → Steps (s .planner) (s .bank) answered p′ b′ → Steps p b (s .answer ∷ answered) p′ b′
+
+-- the same of `step`, which takes no bank
+pub data StepsAlone : Planner → List Answer → Planner → Type 0 where
+  none : {p : Planner} → StepsAlone p [] p
+  step : {p : Planner} {answered : List Answer} {p′ : Planner} → (s : Step) → StepGives p s → StepsAlone (s .planner) answered p′ → StepsAlone p (answerIn (s .given) ∷ answered) p′
+
+-- any such list is one of steps with a bank, whatever bank is taken along
+pub with-bank : {p : Planner} {answered : List Answer} {p′ : Planner} → StepsAlone p answered p′ → (b : Bank) → (b′ : Bank) × Steps p b answered p′ b′
+with-bank none b = (b, none)
+with-bank (step {p = p} s i rest) b =
+    let next = bankNext (coming p .entries) (coming p .left) b in
+    let r = with-bank rest next in
+    (r .0, step (record { planner = s .planner; bank = next; answer = answerIn (s .given) }) (record { answer = i .answer; rest = i .rest; bank = refl; counts = i .counts; sound = i .sound }) (r .1))
 
 -- every planner on the way is sound, so that a next step may follow
 pub steps-sound : {p : Planner} {b : Bank} {answered : List Answer} {p′ : Planner} {b′ : Bank} → Steps p b answered p′ b′ → Sound p → Sound p′
@@ -64,3 +78,7 @@ module _ (bytes : List ℕ) (opcode : ℕ) (scissor : Scissor) (mode address : �
   pub bank-is : {b : Bank} {answered : List Answer} {p′ : Planner} {b′ : Bank} → Steps p b answered p′ b′
       → b′ ≡ bankTo (length answered) (planOf (requestOf bytes opcode scissor mode address) .entries) (planOf (requestOf bytes opcode scissor mode address) .left) b
   bank-is r = steps-bank r _ _ _ (f .coming)
+
+  pub answered-alone : {answered : List Answer} {p′ : Planner} → StepsAlone p answered p′
+      → answered ≡ answers (length answered) (planOf (requestOf bytes opcode scissor mode address) .entries) (endOf (planOf (requestOf bytes opcode scissor mode address)))
+  answered-alone r = answered-is (with-bank r (record { tiles = [] }) .1)
