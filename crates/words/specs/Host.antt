@@ -166,7 +166,8 @@ words-step b n (entry.Size i uls ult lrs lrt) = bank-set 0 (uls ∷ ult ∷ lrs 
 words-step b n (entry.Load i uls ult lrs lrt words rows stride start len) = bank-set 0 (uls ∷ ult ∷ lrs ∷ lrt ∷ extent uls lrs ∷ extent ult lrt ∷ []) 6 (λ t. resized t uls ult lrs lrt) (λ t ns. refl) b n i
 words-step b n (entry.Rect i ulx uly lrx lry uls ult dsdx dtdy row) = refl
 
-eight-still : (b : Bank) (e : Entry) → length (bankStep b e .tiles) ≡ length (b .tiles)
+-- the bank keeps its number of tiles
+pub eight-still : (b : Bank) (e : Entry) → length (bankStep b e .tiles) ≡ length (b .tiles)
 unfolding bankStep setTile setSize
 eight-still b (entry.Image fmt siz width address) = refl
 eight-still b (entry.Tile i fmt siz line tmem palette cms cmt masks maskt) = length-set (b .tiles) i _
