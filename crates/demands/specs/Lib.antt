@@ -2,3 +2,4 @@
 pub mod Steps
 pub mod Drift
 pub mod Loads
+pub mod Early
