@@ -1,14 +1,13 @@
 #!/usr/bin/env python3
 """Writes antt modules that hold the definitions of the crate plan against the oracle's answers and document 01's figures.
 
-  make_cases.py ORACLE_BINARY ORACLE_CASES CRATES            crates/plan/specs: Unit.antt, Edges.antt
-  make_cases.py ORACLE_BINARY --records FILE OUT.antt NAME [MAX_ENTRIES [CHUNK]]   other records of 61 bytes, in claims of CHUNK records;
-      crates/cases/specs/Sample.antt: --records ORACLE_CASES/sample.records crates/cases/specs/Sample.antt sample
+  make_cases.py ORACLE CASES RECORDS CRATES     plan/specs/Unit.antt, plan/specs/Edges.antt and cases/specs/Sample.antt below CRATES
 
-ORACLE_CASES is the oracle's folder cases/ (NAME.bin, list.txt, sample.records). Every expected number comes from the oracle's output,
-and what document 01 says of its cases from SAID below.
+ORACLE is the program that differential/build makes, CASES the folder that `oracle --cases` writes, RECORDS the list of crates/replay, in which
+the sample records stand after document 01's cases. Every expected number comes from the oracle's output, and what document 01 says of its
+cases from SAID below. `differential/run cases` runs this, and `differential/run remade` holds the files against it.
 """
-import os, struct, subprocess, sys
+import struct, subprocess, sys
 
 SEVEN = 7
 
@@ -71,8 +70,9 @@ def module(oracle, path, title, groups, bank=None):
                     f'\npub {name}-agree : T (allAgree bank {name})\nunfolding {name} allAgree\n{name}-agree = tt\n')
 
 def records(path):
+    """the 61 bytes of a case in each item of 64"""
     data = open(path, 'rb').read()
-    return [data[i:i + 61] for i in range(0, len(data), 61)]
+    return [data[i:i + 61] for i in range(0, len(data), 64)]
 
 def copy(w, h, fw=None, fh=None, th=8, x=0, y=0, fx=0, fy=0, siz=2, fmt=0, flip=0, right=320, load=0xfff4, size_w=1, pal=0, address=4096):
     """document 01's case L, with changes"""
@@ -121,24 +121,16 @@ EDGES = [
 ]
 PICKED = [(27, 'wrapping in both directions'), (36, 'flipped strips'), (40, 'a clipped top'), (68, '5 before an empty frame'), (127, 'a destination below 0: 8')]
 
+SAMPLES = 152
+
 def main():
-    oracle = sys.argv[1]
-    if sys.argv[2] == '--records':
-        path, out, name = sys.argv[3], sys.argv[4], sys.argv[5]
-        limit = int(sys.argv[6]) if len(sys.argv) > 6 else 10**9
-        chunk = int(sys.argv[7]) if len(sys.argv) > 7 else 10**9
-        digests = subprocess.run([oracle, '--digest', path], capture_output=True, check=True).stdout.decode().splitlines()
-        rows = [('', row(oracle, r, 40, int(d.split()[1]) * 11 + 5)) for r, d in zip(records(path), digests) if int(d.split()[1]) <= limit]
-        print(len(rows), 'records')
-        module(oracle, out, f'The records of the oracle\'s {os.path.basename(path)}.', [(f'{name}{i // chunk}' if len(rows) > chunk else name, rows[i:i + chunk]) for i in range(0, len(rows), chunk)], 'Unit')
-        return
-    cases, crates = sys.argv[2], sys.argv[3]
+    oracle, cases, replayed, crates = sys.argv[1:]
     counts = dict(l.split() for l in open(f'{cases}/list.txt'))
     case = lambda name: ('D ' + SAID[name][0], row(oracle, open(f'{cases}/{name}.bin', 'rb').read(), int(counts[name]), said=SAID[name][1]))
-    plan = f'{crates}/plan/specs'
-    sample = records(f'{cases}/sample.records')
+    sample = records(replayed)[len(counts):len(counts) + SAMPLES]
     picked = [(f'sample record {i}: {c}', sample[i]) for i, c in PICKED]
-    module(oracle, f'{plan}/Unit.antt', 'Document 01\'s cases L, A, B, C, D, E, G, H, I, J, in this order, as a unit: from the 61 bytes to the whole plan, the bank, and the figures of document 01.', [('unit', [case(c) for c in 'L A B C D E G H I J'.split()])])
-    module(oracle, f'{plan}/Edges.antt', 'Records at the edges of the rules.', [('edges', [(c, row(oracle, r)) for c, r in EDGES + picked])], 'Unit')
+    module(oracle, f'{crates}/plan/specs/Unit.antt', 'Document 01\'s cases L, A, B, C, D, E, G, H, I, J, in this order, as a unit: from the 61 bytes to the whole plan, the bank, and the figures of document 01.', [('unit', [case(c) for c in 'L A B C D E G H I J'.split()])])
+    module(oracle, f'{crates}/plan/specs/Edges.antt', 'Records at the edges of the rules.', [('edges', [(c, row(oracle, r)) for c, r in EDGES + picked])], 'Unit')
+    module(oracle, f'{crates}/cases/specs/Sample.antt', 'The sample records of crates/replay.', [('sample', [('', row(oracle, r)) for r in sample])], 'Unit')
 
 main()

@@ -43,7 +43,8 @@ oracle [options] --claims FILE   sentences of document 01 held against the plans
 oracle --lines                   the lines of a scaled case from standard input
 oracle --gen SEED COUNT MODE     records; MODE: mixed copy scaled thin whole
                                    corners damaged wild
-oracle --cases DIRECTORY         document 01's cases: .bin, .txt and .bank files and list.txt
+oracle --cases DIRECTORY         document 01's cases as host/tests/cases has them: .bin, .txt and
+                                   .bank files, list.txt and initial-bank.txt
 oracle [options] --initial-bank  the bank that the options name
 oracle --replay DIRECTORY        the list of crates/replay, its bank and the Rust's answers
 oracle --replayed DIRECTORY      whether the answers there are still the Rust's
@@ -322,14 +323,14 @@ fn end_text(answer: Option<Answer>, bank: bool) -> String {
     text
 }
 
-/// The same as `print_plan` prints, as one text.
-fn plan_text(record: &Record, settings: &Settings, bank: bool) -> String {
+/// The same as `print_plan` prints without the bank, as one text.
+fn plan_text(record: &Record, settings: &Settings) -> String {
     let answer = caught(record, settings, Sink::Keep);
     let mut text = String::new();
     for entry in answer.iter().flat_map(|a| &a.plan.entries) {
         print_entry(entry, &mut text);
     }
-    text + &end_text(answer, bank)
+    text + &end_text(answer, false)
 }
 
 fn digest_text(record: &Record, settings: &Settings) -> String {
@@ -360,11 +361,18 @@ fn claims_text(file: &str, settings: &Settings) -> String {
     text
 }
 
-/// For each case: the record, the plan from a zero bank, and the plan and bank from seed 1.
+/// The bank of seed 1 and, for each case, the record, the plan from a zero bank, and the bank that
+/// the plan leaves of the bank of seed 1.
 fn write_cases(directory: &str) {
     let write = |name: &str, bytes: &[u8]| {
         std::fs::write(format!("{directory}/{name}"), bytes).expect("cases directory");
     };
+    let bank_text = |bank: &record::Bank| {
+        let mut text = String::new();
+        print_bank(bank, &mut text);
+        text
+    };
+    let seeded_bank = initial_bank(Some(1));
     let mut list = String::new();
     for case in cases::all() {
         let settings = Settings {
@@ -372,16 +380,17 @@ fn write_cases(directory: &str) {
             ..Default::default()
         };
         let seeded = Settings {
-            bank: initial_bank(Some(1)),
+            bank: seeded_bank.clone(),
             ..settings.clone()
         };
         let name = case.name;
         writeln!(list, "{name} {}", case.object_bytes).unwrap();
         write(&format!("{name}.bin"), &case.record.to_bytes());
-        let plan = plan_text(&case.record, &settings, false);
+        let plan = plan_text(&case.record, &settings);
         write(&format!("{name}.txt"), plan.as_bytes());
-        let bank = plan_text(&case.record, &seeded, true);
-        write(&format!("{name}.bank"), bank.as_bytes());
+        let answer = run(&case.record, &seeded, Sink::Nothing);
+        write(&format!("{name}.bank"), bank_text(&answer.bank).as_bytes());
     }
     write("list.txt", list.as_bytes());
+    write("initial-bank.txt", bank_text(&seeded_bank).as_bytes());
 }

@@ -1,4 +1,4 @@
--- The records of the oracle's sample.records. Written by tools/make_cases.py from the oracle's output.
+-- The sample records of crates/replay. Written by tools/make_cases.py from the oracle's output.
 -- Assumes nothing.
 use mathlib.Core.List.{List, [], _∷_}
 use lib.Dec.{T}
