@@ -35,7 +35,7 @@ pub use hle::mem::{MemoryError, MemoryErrorKind};
 use case::{without, Case};
 use generate::Mode;
 use guarded::Buffers;
-use plan::{End, Sink};
+use plan::{End, Sink, BRANCH_NAMES};
 use proved::{BANK_WORDS, END_WORDS, REQUEST_WORDS};
 use random::Random;
 use record::{initial_bank, tile_fields, Record, COPY, OBJECT_BYTES, RECORD_BYTES, SCALED};
@@ -125,6 +125,28 @@ fn rooms(entries: u64, random: &mut Random) -> Vec<usize> {
     rooms
 }
 
+/// Branches of the Rust that docs/DIFFERENCES.md says are never taken.
+const NEVER_TAKEN: [&str; 2] = [
+    "load_1cyc_tile: rows <= 0",
+    "bg_1cyc: last strip cut, rows limited to R",
+];
+/// The most rows before the image that a load starts at.
+const MOST_ROWS_BEFORE: i64 = 63;
+
+/// What the Rust did though docs/DIFFERENCES.md says that it never does.
+fn unexpected(answer: &Answer) -> Option<String> {
+    let notes = &answer.plan.notes;
+    let taken = BRANCH_NAMES
+        .iter()
+        .zip(notes.hits)
+        .find(|(name, hits)| *hits > 0 && NEVER_TAKEN.contains(name));
+    if let Some((name, _)) = taken {
+        return Some(format!("the Rust took the branch {name:?}\n"));
+    }
+    let rows = notes.most_above;
+    (rows > MOST_ROWS_BEFORE).then(|| format!("a strip starts {rows} rows before the image\n"))
+}
+
 /// Runs a case into each of its buffers; the first difference, as text.
 fn compare(case: &Case, buffers: &mut Buffers, tally: &mut Tally) -> Option<String> {
     let asked = |capacity, sink| {
@@ -136,6 +158,9 @@ fn compare(case: &Case, buffers: &mut Buffers, tally: &mut Tally) -> Option<Stri
     let Some(whole) = asked(u64::MAX, Sink::Keep) else {
         return Some("the original Rust panicked\n".to_string());
     };
+    if let Some(text) = unexpected(&whole) {
+        return Some(text);
+    }
     tally.records += 1;
     tally.short_objects += u64::from(case.object.len() < OBJECT_BYTES);
     let mut random = Random(case.draw);
