@@ -3,3 +3,5 @@ pub mod Steps
 pub mod Drift
 pub mod Loads
 pub mod Early
+pub mod Small
+pub mod SmallPlans
