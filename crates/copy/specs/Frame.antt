@@ -78,7 +78,7 @@ capacity-in : (t : Bool) → cond t 256 512 ≤ 512
 capacity-in true = omega arith
 capacity-in false = omega arith
 
-copy-sound : (bg : ObjBg) (s : Scissor) (address : ℕ) → PassedCopy bg s → bg .«tmem_h» / 4 ≤ 16383 → copyEmpty (copyOf bg s address) ≡ false → SoundCopy (copyOf bg s address)
+pub copy-sound : (bg : ObjBg) (s : Scissor) (address : ℕ) → PassedCopy bg s → bg .«tmem_h» / 4 ≤ 16383 → copyEmpty (copyOf bg s address) ≡ false → SoundCopy (copyOf bg s address)
 unfolding copyOf axisOf
 copy-sound bg s address p rows e =
     let r = p .passed .range in

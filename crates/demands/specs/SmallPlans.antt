@@ -15,6 +15,15 @@ use Rattle.signed.specs.Diff.{up, zdiff, zparts, zarith}
 use Rattle.signed.specs.Floor.{modulo, modulo-lt}
 use Rattle.signed.specs.Cast.{u16, i16}
 use Rattle.object.specs.declared.types.Verdict.the-variants as verdict
+use Rattle.object.specs.declared.types.ObjBg.{ObjBg}
+use Rattle.object.specs.declared.types.Scissor.{Scissor}
+use Rattle.object.specs.declared.types.Checked.{Checked}
+use Rattle.object.specs.declared.types.Checked.the-variants as checked
+use Rattle.object.specs.Check.{checkedOf}
+use Rattle.object.specs.Layout.{Bytes, layout, valueOf, decode}
+use Rattle.object.specs.Range.{PassedCopy, PassedScaled}
+use Rattle.object.specs.Reads.{read-below}
+use Rattle.object.specs.Passed.{passed-copy, passed-scaled, checked-copy-is}
 use Rattle.plan.specs.declared.types.Entry.{Entry}
 use Rattle.plan.specs.declared.types.Entry.the-variants as entry
 use Rattle.plan.specs.declared.types.Copy.{Copy}
@@ -24,11 +33,20 @@ use Rattle.plan.specs.declared.types.Source.{Source}
 use Rattle.plan.specs.declared.types.Walk.{Walk}
 use Rattle.plan.specs.declared.types.Clip.{Clip}
 use Rattle.plan.specs.declared.types.First.{First}
-use Rattle.plan.specs.Out.{Out, yield, emit}
-use Rattle.plan.specs.Copy.{field, bound, stripEntries, strip, stripOf, columns, rows, stripRow, stripHeight, copyPlan}
-use Rattle.plan.specs.Scaled.{sizeOf, fieldOf, lrsOf, lrtOf, tile7, loadPart, load1cycTile, back, fromTop, splitRow, upToEnd, advance, load1cyc, leftAfter, linesOf, rowsOf, rowOf, rectOf, afterDraw, nextPass, drawOf, drawPass, idlePass, pass, passes, firstPass, scaledPlan}
+use Rattle.plan.specs.declared.types.Start.{Start}
+use Rattle.plan.specs.Request.{Request}
+use Rattle.plan.specs.Out.{Out, yield, emit, planOut}
+use Rattle.plan.specs.Out.Out.{go, stop}
+use Rattle.plan.specs.Whole.{copyOut, scaledOut, checkedOut, planWith, planOf}
+use Rattle.plan.specs.Copy.{field, bound, stripEntries, strip, stripOf, columns, rows, stripRow, stripHeight, copyOf, copyEmpty, copyPlan}
+use Rattle.plan.specs.Scaled.{sizeOf, fieldOf, lrsOf, lrtOf, tile7, loadPart, load1cycTile, back, fromTop, splitRow, upToEnd, advance, load1cyc, leftAfter, linesOf, rowsOf, rowOf, rectOf, afterDraw, nextPass, drawOf, drawPass, idlePass, pass, passes, firstPass, scaledPlan, clipOf, scaledEmpty, startOf, scaledOf, slicesBad, firstOf}
 use Rattle.plan.specs.Sound.{SoundCopy, SoundScaled}
+use Rattle.copy.specs.Frame.{copy-sound}
 use Rattle.copy.specs.Strip.{Bounds, Rows, strip-bounds, height-in}
+use Rattle.scaled.specs.Range.{usable}
+use Rattle.scaled.specs.ClipLaw.{clip-filled}
+use Rattle.scaled.specs.StartLaw.{start-in}
+use Rattle.scaled.specs.StripLaw.{scaled-sound}
 use Rattle.demands.specs.Small.{Small, AllSmall, Few, Any, few-more, few-bind, few-yield, few-stop, few-if, few-wider, few-emit, signed-in, cut-in, few-address, few-load}
 
 -- ---- copy plans: five entries a strip, and at most one strip a cell
@@ -190,3 +208,55 @@ few-scaled z c f k a y h =
     few-more (tile7 z (pos 0) ∷ entry.Tile 0 (z .fmt) (z .siz) (z .line % 2 ^ 16) 0 (z .palette) 1 1 15 15 ∷ entry.Size 0 0 0 0 0 ∷ []) _
     (tile7-small z (pos 0) k, (omega (arith, k .fmt, k .siz, k .palette, k .line′), (omega arith, tt)))
     (few-passes (65 * (c .height / 4)) z (firstPass z c f p) k a (record { lines = omega arith; from = l }))))
+
+-- ---- every plan
+
+-- what a host can ask: bytes, and an address of 64 bits
+pub record Asked (q : Request) : Type 0 where
+  pub bytes : Bytes (q .bytes)
+  pub address : q .address < 2 ^ 64
+
+copy-address : (bg : ObjBg) (s : Scissor) (address : ℕ) → copyOf bg s address .address ≡ address
+unfolding copyOf
+copy-address bg s address = refl
+
+scaled-address : (bg : ObjBg) (mode address : ℕ) (c : Clip) (i : Start) → scaledOf bg mode address c i .address ≡ address
+unfolding scaledOf
+scaled-address bg mode address c i = refl
+
+few-copied : (bg : ObjBg) (q : Request) → PassedCopy bg (q .scissor) → bg .«tmem_h» / 4 ≤ 16383 → q .address < 2 ^ 64 → Few Any 5232646 (copyOut bg q)
+unfolding copyOut
+few-copied bg q p t a =
+    let c = copyOf bg (q .scissor) (q .address) in
+    few-if (copyEmpty c) _ _ (λ _. few-yield _ tt) (λ e. few-copy c (copy-sound bg (q .scissor) (q .address) p t e) (rw (copy-address bg (q .scissor) (q .address)) a))
+
+few-made : (bg : ObjBg) (q : Request) → PassedScaled bg (q .scissor) → q .address < 2 ^ 64 → Few Any 1130418 (scaledOut bg q)
+unfolding scaledOut
+few-made bg q p a =
+    let c = clipOf bg (q .scissor) in
+    let i = startOf bg c in
+    let z = scaledOf bg (q .mode) (q .address) c i in
+    few-if (scaledEmpty c) _ _ (λ _. few-yield _ tt) (λ e.
+    few-if (slicesBad z) _ _ (λ _. few-stop _ verdict.Slices) (λ f.
+    let filled = clip-filled bg (q .scissor) p e in
+    let inside = start-in bg c (usable p) filled in
+    few-scaled z c (firstOf z i) (scaled-sound bg (q .mode) (q .address) c i (usable p) filled (inside .image-x) f) (rw (scaled-address bg (q .mode) (q .address) c i) a) (filled .y) (filled .height′)))
+
+tmem-in : (bs : List ℕ) → Bytes bs → decode 4 true bs .«tmem_h» ≤ 65535
+unfolding decode valueOf layout
+tmem-in bs b = omega (arith, read-below bs 30 2 b)
+
+few-checked : (q : Request) (r : Checked) → Asked q → checkedOf 4 (q .bytes) (q .opcode) (q .scissor) ≡ r → Few Any 5232646 (checkedOut r q)
+unfolding checkedOut
+few-checked q (checked.Refused v) h e = few-wider 5232646 _ (omega arith) (few-stop [] v)
+few-checked q (checked.Copy bg) h e = few-copied bg q (passed-copy 4 (q .bytes) (q .opcode) (q .scissor) bg (h .bytes) e) (omega (arith, ap (λ (o : ObjBg). o .«tmem_h») (checked-copy-is 4 (q .bytes) (q .opcode) (q .scissor) bg e), tmem-in (q .bytes) (h .bytes))) (h .address)
+few-checked q (checked.Scaled bg) h e = few-wider 5232646 _ (omega arith) (few-made bg q (passed-scaled 4 (q .bytes) (q .opcode) (q .scissor) bg (h .bytes) e) (h .address))
+
+-- the numbers of every plan's entries, and how many there are
+pub plan-small : (q : Request) → Asked q → AllSmall (planOf q .entries) × (length (planOf q .entries) ≤ 5232646)
+unfolding planOf planWith
+plan-small q h = by (checkedOut (checkedOf 4 (q .bytes) (q .opcode) (q .scissor)) q) (few-checked q (checkedOf 4 (q .bytes) (q .opcode) (q .scissor)) h refl)
+  where
+    by : (o : Out (Unit {0})) → Few Any 5232646 o → AllSmall (planOut o .entries) × (length (planOut o .entries) ≤ 5232646)
+    by (go es u) f = (f .small, f .few)
+    by (stop es l v) f = (f .small, f .few)
