@@ -50,7 +50,7 @@ fn source_left(c: Copy, sx: u64, strip_width: u64) -> u64
 }
 
 // Rounded down to the texels of a word.
-fn aligned(c: Copy, n: u64) -> u64
+pub(crate) fn aligned(c: Copy, n: u64) -> u64
     requires { ⌜ SoundCopy c ⌝ }
     requires { ⌜ n ≤ 16383 ⌝ }
     ensures { λ r. ⌜ Aligned c n r ⌝ }
@@ -59,7 +59,7 @@ fn aligned(c: Copy, n: u64) -> u64
 }
 
 // The words of a line.
-fn line_of(siz: u64, load_width: u64) -> u64
+pub(crate) fn line_of(siz: u64, load_width: u64) -> u64
     requires { ⌜ siz ≤ 3 ⌝ }
     requires { ⌜ «load_width» ≤ 16383 ⌝ }
     ensures { λ r. ⌜ r ≡ lineOf siz «load_width» ⌝ }
