@@ -9,6 +9,7 @@ use native.Mathlib.Nat.{mul-comm}
 use borrow.Author.Tests.{ltb-true, ltb-false, lt-ltb, le-ltb}
 use lib.Dec.{ltb}
 use lib.ListN.{length}
+use Rattle.signed.specs.Floor.{modulo}
 use Rattle.object.specs.declared.types.Verdict.{Verdict}
 use Rattle.object.specs.declared.types.Verdict.the-variants as verdict
 use Rattle.tile.specs.declared.load.LoadRequest.{LoadRequest}
@@ -22,17 +23,17 @@ use Rattle.plan.specs.Out.{Out, more, _>>_, emit, planOut}
 use Rattle.plan.specs.Out.Out.{go, stop}
 use Rattle.plan.specs.Load.{loadOut, loadTile}
 use Rattle.plan.specs.Run.{rectangles, wordsFrom, endOf}
-use Rattle.plan.specs.Copy.{field, bound, stripRow, stripHeight, rows, copyPlan}
+use Rattle.plan.specs.Copy.{field, bound, column, stripRow, stripHeight, rows, copyPlan}
 use Rattle.plan.specs.Laws.{rows-end}
 use Rattle.plan.specs.Sound.{SoundCopy}
 use Rattle.copy.specs.declared.types.Area.{Area}
 use Rattle.copy.specs.declared.types.Due.the-variants as due
 use Rattle.copy.specs.declared.types.Place.{Place}
-use Rattle.copy.specs.Strip.{Less, StripIs, Rows, row-in}
+use Rattle.copy.specs.Strip.{Less, StripIs, Rows, column-is, row-in}
 use Rattle.copy.specs.Walk.{placeAt, SoundPlace, imageEntry, tileEntry, tile0Entry, sizeEntry, areaOf, requestIn, rectEntry, tooBig}
 use Rattle.copy.specs.Coming.{restFrom, restOf, dueTail, loadTail, stripTail, tailOf, too-big, fits, right-tail, row-rest, below-tail}
 use Rattle.copy.specs.Kept.{place-sound}
-use Rattle.copy.specs.Count.{AtWrap, bytesOf, refusedAt}
+use Rattle.copy.specs.Count.{wrapColumn, bytesOf, refusedAt}
 use Rattle.copy.proofs.Wrap.{strip-wrapped, row-below}
 
 -- the end of what is to come, where tile 7 has this line
@@ -166,11 +167,10 @@ pub record AtCell (c : Copy) (y sy h entries rectangles words : ℕ) (v : Verdic
   pub few : entries ≤ 5 * (1024 * y + x) + 1
   pub drawn : rectangles ≤ 1024 * y + x
 
--- and at the strip that starts there
-pub record AtStrip (c : Copy) (y sy h entries rectangles words : ℕ) (v : Verdict) (x : ℕ) (strip : Strip) : Type 0 where
+-- and from image column sx on, where a cell is left
+pub record AtColumn (c : Copy) (y sy h entries rectangles words : ℕ) (v : Verdict) (x sx : ℕ) : Type 0 where
   pub at : AtCell c y sy h entries rectangles words v x
-  pub cell : x < c .width
-  pub here : StripIs c x strip
+  pub column : x < c .width → Less (modulo (column c x) (c .«image_width»)) (c .«image_width») sx
 
 pub started : {c : Copy} {sy : ℕ} → sy ≡ stripRow c 0 → AtRow c 1 0 0 verdict.Finished 0 sy
 unfolding copyPlan endOf
@@ -180,7 +180,7 @@ module _ {c : Copy} {entries rectangles words : ℕ} {v : Verdict} {y sy : ℕ} 
   pub row-less : Less (stripRow c y) (c .«image_height») sy
   row-less = record { is = a .row; below = rw (a .row) (row-in c y s) }
 
-  pub row-begins : {h : ℕ} {first : Strip} → h ≡ stripHeight c y → StripIs c 0 first → AtStrip c y sy h entries rectangles words v 0 first
+  pub row-begins : {h first : ℕ} → h ≡ stripHeight c y → Less (modulo (column c 0) (c .«image_width»)) (c .«image_width») first → AtColumn c y sy h entries rectangles words v 0 first
   row-begins e f =
       let few = a .few in
       let drawn = a .drawn in
@@ -194,8 +194,7 @@ module _ {c : Copy} {entries rectangles words : ℕ} {v : Verdict} {y sy : ℕ} 
               few = omega arith;
               drawn = omega arith;
             };
-        cell = s .width;
-        here = f;
+        column = λ l. f;
       }
 
 pub row-ends : {c : Copy} {y sy h entries rectangles words : ℕ} {v : Verdict} {x sy′ : ℕ} → SoundCopy c → sy ≡ stripRow c y → 1 ≤ h → c .width ≤ x → sy′ ≡ (sy + h) % c .«image_height» → AtCell c y sy h entries rectangles words v x
@@ -222,18 +221,22 @@ finished {c} {entries} {rectangles} {words} {v} {y} k a =
     ∙ ap (λ (o : Out (Unit {0})). plus entries rectangles words (endFrom (a .line) o)) (rows-end (c .height) c y (le-ltb y (c .height) k))
     ∙ rw (a .verdict) (same verdict.Finished (omega arith) (omega arith) (omega arith)))
 
-module _ {c : Copy} {y sy h entries rectangles words : ℕ} {v : Verdict} {x : ℕ} {strip : Strip} (s : SoundCopy c) (k : y < c .height) (r : Rows c y sy h) (a : AtStrip c y sy h entries rectangles words v x strip) where
+module _ {c : Copy} {y sy h entries rectangles words : ℕ} {v : Verdict} {x sx : ℕ} {strip : Strip} (s : SoundCopy c) (k : y < c .height) (r : Rows c y sy h) (a : AtColumn c y sy h entries rectangles words v x sx) (l : x < c .width) (here : StripIs c x strip) where
   abbrev place : Place
   place = record { copy = c; x = x; y = y; sy = sy; «strip_height» = h; strip = strip }
 
   place-is : place ≡ placeAt c x y sy h
-  place-is = ap (λ (t : Strip). record { copy = c; x = x; y = y; sy = sy; «strip_height» = h; strip = t }) (a .here .is)
+  place-is = ap (λ (t : Strip). record { copy = c; x = x; y = y; sy = sy; «strip_height» = h; strip = t }) (here .is)
 
   sound : SoundPlace place
-  sound = record { copy = s; x = a .cell; y = k; rows = r; strip = a .here .bounds }
+  sound = record { copy = s; x = l; y = k; rows = r; strip = here .bounds }
 
   at-strip : endOf (planOut (copyPlan c)) ≡ plus entries rectangles words (endFrom (a .at .line) (stripTail place))
-  at-strip = rw place-is (a .at .is ∙ ap (λ (o : Out (Unit {0})). plus entries rectangles words (endFrom (a .at .line) o)) (right-tail c y sy h x s (a .cell)))
+  at-strip = rw place-is (a .at .is ∙ ap (λ (o : Out (Unit {0})). plus entries rectangles words (endFrom (a .at .line) o)) (right-tail c y sy h x s (l)))
+
+  -- the next strip of the row starts where the image begins again
+  next-column : x + strip .«strip_width» < c .width → modulo (column c (x + strip .«strip_width»)) (c .«image_width») ≡ wrapColumn c
+  next-column m = rw (here .is) (strip-wrapped c x s (rw (here .is) at m))
 
   pub strip-too-big : c .capacity < strip .line * h → record { verdict = verdict.TooBig; entries = entries; rectangles = rectangles; words = words } ≡ endOf (planOut (copyPlan c))
   unfolding rectangles wordsFrom
@@ -248,21 +251,21 @@ module _ {c : Copy} {y sy h entries rectangles words : ℕ} {v : Verdict} {x : �
         → record { verdict = verdict.Address; entries = entries + 3; rectangles = rectangles; words = words } ≡ endOf (planOut (copyPlan c))
     strip-refused g = sym (at-strip ∙ ap (plus entries rectangles words) (broken place sound (a .at .line) room g) ∙ same verdict.Address refl (omega arith) (omega arith))
 
-    pub strip-counted : {most : ℕ} → refusedAt c (strip .«aligned_left») sy ≡ false → most ≡ max words (strip .line * h)
-        → AtCell c y sy h (entries + 5) (rectangles + 1) most v (x + strip .«strip_width»)
-    strip-counted g e =
-        let b = a .here .bounds in
+    pub strip-counted : {wrap most : ℕ} → wrap ≡ wrapColumn c → refusedAt c (strip .«aligned_left») sy ≡ false → most ≡ max words (strip .line * h)
+        → AtColumn c y sy h (entries + 5) (rectangles + 1) most v (x + strip .«strip_width») wrap
+    strip-counted w g e =
+        let b = here .bounds in
         let few = a .at .few in
         let drawn = a .at .drawn in
         record {
-          line = strip .line;
-          is = rw e (at-strip ∙ ap (plus entries rectangles words) (whole place sound (a .at .line) room g) ∙ joined entries rectangles words 5 1 (strip .line * h) (endFrom (strip .line) (restOf place)));
-          verdict = a .at .verdict;
-          within = omega arith;
-          few = omega arith;
-          drawn = omega arith;
+          at =
+              record {
+                line = strip .line;
+                is = rw e (at-strip ∙ ap (plus entries rectangles words) (whole place sound (a .at .line) room g) ∙ joined entries rectangles words 5 1 (strip .line * h) (endFrom (strip .line) (restOf place)));
+                verdict = a .at .verdict;
+                within = omega arith;
+                few = omega arith;
+                drawn = omega arith;
+              };
+          column = λ m. column-is c (x + strip .«strip_width») s (w ∙ sym (next-column m));
         }
-
-  -- the next strip of the row starts where the image begins again
-  pub next-wraps : x + strip .«strip_width» < c .width → AtWrap c (x + strip .«strip_width»)
-  next-wraps l = rw (a .here .is) (strip-wrapped c x s (rw (a .here .is) at l))

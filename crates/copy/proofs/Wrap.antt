@@ -1,4 +1,4 @@
--- Where the image begins again: the column after a strip that reaches its end, the strip that starts there, and the row after a row of strips.
+-- Where the image begins again: the column after a strip that reaches its end, and the row after a row of strips.
 -- Assumes nothing.
 use mathlib.Core.Path.{_≡_, refl, sym, ap, _∙_}
 use mathlib.Core.Bool.{Bool, true, false, cond}
@@ -9,11 +9,9 @@ use lib.IntN.{ℤ, pos, _+ℤ_, _-ℤ_, _*ℤ_}
 use Rattle.signed.specs.Diff.{zdiff, zarith}
 use Rattle.signed.specs.Floor.{floorDiv, modulo, modulo-lt, floor-mod, floor-unique}
 use Rattle.plan.specs.declared.types.Copy.{Copy}
-use Rattle.plan.specs.declared.types.Strip.{Strip}
 use Rattle.plan.specs.Copy.{column, stripOf, stripRow}
 use Rattle.plan.specs.Sound.{SoundCopy}
-use Rattle.copy.specs.Strip.{widthOf, leftOf, alignedOf, lineOf}
-use Rattle.copy.specs.Count.{AtWrap, leftAfter}
+use Rattle.copy.specs.Count.{wrapColumn}
 
 -- up to the end of the image, or down to its start
 wrap-up : (z : ℤ) (m : ℕ) → 0 < m → modulo (z +ℤ pos (m - modulo z m)) m ≡ 0
@@ -36,7 +34,7 @@ from-wrap true a b n m w h e =
 from-wrap false a b n m w h e = ap (λ (k : ℕ). (n + k) % m) e ∙ wrap-up (pos n) m h
 
 -- a strip that leaves a cell to its right has reached the end of the image
-pub strip-wrapped : (c : Copy) (x : ℕ) → SoundCopy c → x + stripOf c x .«strip_width» < c .width → AtWrap c (x + stripOf c x .«strip_width»)
+pub strip-wrapped : (c : Copy) (x : ℕ) → SoundCopy c → x + stripOf c x .«strip_width» < c .width → modulo (column c (x + stripOf c x .«strip_width»)) (c .«image_width») ≡ wrapColumn c
 unfolding stripOf
 strip-wrapped c x s k =
     let w = stripOf c x .«strip_width» in
@@ -45,34 +43,6 @@ strip-wrapped c x s k =
     let e : w ≡ cond (c .flip) (modulo (column c x) (c .«image_width») + 1) (c .«image_width» - modulo (column c x) (c .«image_width»)) = omega arith in
     rw (back, on) (from-wrap (c .flip) (c .«source_x» + c .«frame_cells») (1 + c .«x_skip» + x) (c .«source_x» + c .«x_skip» + x) (c .«image_width») w (s .image-width) e)
 
--- ---- the strip that starts there
-
--- R 484–489, from a strip's width and its first column
-abbrev stripFrom : Copy → (width left : ℕ) → Strip
-stripFrom c width left =
-    record {
-      «strip_width» = width;
-      «aligned_left» = alignedOf c left;
-      offset = left - alignedOf c left;
-      «load_width» = left - alignedOf c left + width;
-      line = lineOf (c .siz) (left - alignedOf c left + width);
-    }
-
-wrap-width : (flip : Bool) (m : ℕ) → 1 ≤ m → cond flip (cond flip (m - 1) 0 + 1) (m - cond flip (m - 1) 0) ≡ m
-wrap-width true m h = omega arith
-wrap-width false m h = omega arith
-
-wrap-left : (flip : Bool) (m w : ℕ) → 1 ≤ m → cond flip (cond flip (m - 1) 0 + 1 - w) (cond flip (m - 1) 0) ≡ cond flip (m - w) 0
-wrap-left true m w h = omega arith
-wrap-left false m w h = refl
-
-pub strip-wraps : (c : Copy) (x : ℕ) → SoundCopy c → AtWrap c x → stripOf c x ≡ stripFrom c (min (c .width - x) (c .«image_width»)) (leftAfter c (min (c .width - x) (c .«image_width»)))
-unfolding stripOf
-strip-wraps c x s e =
-    ap (λ (sx : ℕ). stripFrom c (widthOf c x sx) (leftOf c sx (widthOf c x sx))) e
-    ∙ rw (wrap-width (c .flip) (c .«image_width») (s .image-width)) (ap (stripFrom c (min (c .width - x) (c .«image_width»))) (wrap-left (c .flip) (c .«image_width») (min (c .width - x) (c .«image_width»)) (s .image-width)))
-
--- ---- the row below
-
+-- the row below a row of strips
 pub row-below : (c : Copy) (y h : ℕ) → (stripRow c y + h) % c .«image_height» ≡ stripRow c (y + h)
 row-below c y h = let k : c .«source_y» + y + h ≡ c .«source_y» + (y + h) = omega arith in mod-add-mod (c .«source_y» + y) (c .«image_height») h ∙ ap (λ (n : ℕ). n % c .«image_height») k

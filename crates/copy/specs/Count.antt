@@ -1,20 +1,13 @@
 -- What the count of a copy plan's end asks of a strip: where it starts in the image, and whether its load is refused.
 -- Assumes nothing.
-use mathlib.Core.Path.{_≡_}
 use mathlib.Core.Bool.{Bool, not, cond}
 use Prim.Native.Nat.{ℕ, _+_, _-_, _*_, _/_, _^_}
 use lib.Dec.{ltb}
-use Rattle.signed.specs.Floor.{modulo}
 use Rattle.plan.specs.declared.types.Copy.{Copy}
-use Rattle.plan.specs.Copy.{column}
 
--- R 476–481: cell x is where the image begins again, at its first column, or at its last if the frame is flipped
-abbrev pub AtWrap : Copy → ℕ → Type 0
-AtWrap c x = modulo (column c x) (c .«image_width») ≡ cond (c .flip) (c .«image_width» - 1) 0
-
--- R 483, of a strip that starts there
-abbrev pub leftAfter : Copy → ℕ → ℕ
-leftAfter c width = cond (c .flip) (c .«image_width» - width) 0
+-- R 476–481: the image column where a strip starts after another, the first, or the last if the frame is flipped
+abbrev pub wrapColumn : Copy → ℕ
+wrapColumn c = cond (c .flip) (c .«image_width» - 1) 0
 
 -- the bytes of n texels of a row, half a byte each for siz 0
 abbrev pub bytesOf : (siz n : ℕ) → ℕ

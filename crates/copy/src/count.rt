@@ -1,68 +1,19 @@
 // A copy plan's end counted ahead, strip by strip with no entry made, so that a host can size its buffer.
 ghost use mathlib.Core.Path.{_≡_};
-ghost use Prim.Native.Nat.{_%_, _≤_, _<_};
+ghost use Prim.Native.Nat.{_%_, _≤_};
 ghost use Rattle.plan.specs.Out.{planOut};
 ghost use Rattle.plan.specs.Copy.{copyPlan};
 ghost use Rattle.plan.specs.Run.{endOf};
 ghost use Rattle.plan.specs.Sound.{SoundCopy};
 ghost use Rattle.copy.specs.Frame.{AtMost};
-ghost use Rattle.copy.specs.Strip.{Room, Aligned, StripIs};
-ghost use Rattle.copy.specs.Count.{AtWrap, leftAfter, bytesOf, refusedAt};
-use crate::strip::aligned;
-use crate::strip::line_of;
+ghost use Rattle.copy.specs.Count.{wrapColumn, bytesOf, refusedAt};
+use crate::strip::column_at;
+use crate::strip::strip_from;
 use crate::strip::strip_height;
-use crate::strip::strip_of;
 use crate::strip::strip_row;
 use object::Verdict;
 use plan::Copy;
 use plan::End;
-use plan::Strip;
-
-// The first column of a strip that starts where the image begins again.
-fn left_after(c: Copy, strip_width: u64) -> u64
-    requires { ⌜ «strip_width» ≤ c .«image_width» ⌝ }
-    ensures { λ r. ⌜ Room (leftAfter c «strip_width») «strip_width» (c .«image_width») r ⌝ }
-{
-    if c.flip {
-        c.image_width - strip_width
-    } else {
-        0
-    }
-}
-
-// Rounded down to the texels of a word, with no division for the image's first column, where most strips start.
-fn aligned_after(c: Copy, left: u64) -> u64
-    requires { ⌜ SoundCopy c ⌝ }
-    requires { ⌜ left ≤ 16383 ⌝ }
-    ensures { λ r. ⌜ Aligned c left r ⌝ }
-{
-    if left == 0 {
-        return 0;
-    }
-    aligned(c, left)
-}
-
-// The strip at a cell where the image begins again, as it does after every strip but a row's last.
-fn strip_after(c: Copy, x: u64) -> Strip
-    requires { ⌜ SoundCopy c ⌝ }
-    requires { ⌜ x < c .width ⌝ }
-    requires { ⌜ AtWrap c x ⌝ }
-    ensures { λ r. ⌜ StripIs c x r ⌝ }
-{
-    let strip_width = signed::least(c.width - x, c.image_width);
-    let source_left = left_after(c, strip_width);
-    let aligned_left = aligned_after(c, source_left);
-    let offset = source_left - aligned_left;
-    let load_width = offset + strip_width;
-    let line = line_of(c.siz, load_width);
-    Strip {
-        strip_width,
-        aligned_left,
-        offset,
-        load_width,
-        line,
-    }
-}
 
 // The image row after row sy - 1.
 fn row_after(c: Copy, sy: u64) -> u64
@@ -95,12 +46,13 @@ fn refused(c: Copy, aligned_left: u64, sy: u64) -> bool
     0xffff_ffff_ffff_ffff - c.address < offset
 }
 
-// The row walk and the column walk: the first strip that is refused ends both at once. A row's first strip is the same in every row.
-pub fn count_entries(c: Copy) -> End
+// The row walk and the column walk: the first strip that is refused ends both at once. Every strip but the first of its row starts at image column `wrap`.
+fn count_strips(c: Copy, wrap: u64) -> End
     requires { ⌜ SoundCopy c ⌝ }
+    requires { ⌜ wrap ≡ wrapColumn c ⌝ }
     ensures { λ r. ⌜ r ≡ endOf (planOut (copyPlan c)) ⌝ }
 {
-    let first = strip_of(c, 0);
+    let first = column_at(c, 0);
     let mut entries: u64 = 1;
     let mut rectangles: u64 = 0;
     let mut words: u64 = 0;
@@ -110,8 +62,9 @@ pub fn count_entries(c: Copy) -> End
     'rows: while y < c.height {
         let strip_height = strip_height(c, y, sy);
         let mut x: u64 = 0;
-        let mut strip = first;
-        'columns: loop {
+        let mut sx = first;
+        'columns: while x < c.width {
+            let strip = strip_from(c, x, sx);
             let size = strip.line * strip_height;
             if c.capacity < size {
                 verdict = Verdict::TooBig;
@@ -126,10 +79,7 @@ pub fn count_entries(c: Copy) -> End
             rectangles += 1;
             words = signed::most(words, size);
             x += strip.strip_width;
-            if c.width <= x {
-                break 'columns;
-            }
-            strip = strip_after(c, x);
+            sx = wrap;
         }
         y += strip_height;
         sy = row_after(c, sy + strip_height);
@@ -139,5 +89,17 @@ pub fn count_entries(c: Copy) -> End
         entries,
         rectangles,
         words,
+    }
+}
+
+// The end of a whole copy plan. The walks are called from two places, so that the compiler leaves them out of the loop that steps.
+pub fn count_entries(c: Copy) -> End
+    requires { ⌜ SoundCopy c ⌝ }
+    ensures { λ r. ⌜ r ≡ endOf (planOut (copyPlan c)) ⌝ }
+{
+    if c.flip {
+        count_strips(c, c.image_width - 1)
+    } else {
+        count_strips(c, 0)
     }
 }
