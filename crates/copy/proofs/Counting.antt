@@ -2,7 +2,6 @@
 -- Assumes nothing.
 use mathlib.Core.Path.{_≡_, refl, sym, ap, _∙_}
 use mathlib.Core.Bool.{Bool, true, false, not}
-use mathlib.Core.List.{List, [], _∷_}
 use Prim.Native.Nat.{ℕ, _+_, _-_, _*_, _/_, _%_, _^_, _≤_, _<_, max}
 use native.Mathlib.Omega.{arith}
 use native.Mathlib.Nat.{mul-comm}
@@ -19,20 +18,18 @@ use Rattle.plan.specs.declared.types.Copy.{Copy}
 use Rattle.plan.specs.declared.types.End.{End}
 use Rattle.plan.specs.declared.types.Strip.{Strip}
 use Rattle.plan.specs.declared.types.Entry.the-variants as entry
-use Rattle.plan.specs.Out.{Out, more, _>>_, emit, planOut}
+use Rattle.plan.specs.Out.{Out, _>>_, emit, planOut}
 use Rattle.plan.specs.Out.Out.{go, stop}
 use Rattle.plan.specs.Load.{loadOut, loadTile}
 use Rattle.plan.specs.Run.{rectangles, wordsFrom, endOf}
 use Rattle.plan.specs.Copy.{field, bound, column, stripRow, stripHeight, rows, copyPlan}
 use Rattle.plan.specs.Laws.{rows-end}
 use Rattle.plan.specs.Sound.{SoundCopy}
-use Rattle.copy.specs.declared.types.Area.{Area}
 use Rattle.copy.specs.declared.types.Due.the-variants as due
 use Rattle.copy.specs.declared.types.Place.{Place}
 use Rattle.copy.specs.Strip.{Less, StripIs, Rows, column-is, row-in}
 use Rattle.copy.specs.Walk.{placeAt, SoundPlace, imageEntry, tileEntry, tile0Entry, sizeEntry, areaOf, requestIn, rectEntry, tooBig}
 use Rattle.copy.specs.Coming.{restFrom, restOf, dueTail, loadTail, stripTail, tailOf, too-big, fits, right-tail, row-rest, below-tail}
-use Rattle.copy.specs.Kept.{place-sound}
 use Rattle.copy.specs.Count.{wrapColumn, bytesOf, refusedAt}
 use Rattle.copy.proofs.Wrap.{strip-wrapped, row-below}
 

@@ -1,11 +1,11 @@
 -- Where the image begins again: the column after a strip that reaches its end, and the row after a row of strips.
 -- Assumes nothing.
-use mathlib.Core.Path.{_≡_, refl, sym, ap, _∙_}
+use mathlib.Core.Path.{_≡_, sym, ap, _∙_}
 use mathlib.Core.Bool.{Bool, true, false, cond}
-use Prim.Native.Nat.{ℕ, _+_, _-_, _*_, _/_, _%_, _≤_, _<_, min}
-use native.Mathlib.Nat.{div-add-mod', mod-add-mod}
+use Prim.Native.Nat.{ℕ, _+_, _-_, _%_, _<_}
+use native.Mathlib.Nat.{mod-add-mod}
 use native.Mathlib.Omega.{arith}
-use lib.IntN.{ℤ, pos, _+ℤ_, _-ℤ_, _*ℤ_}
+use lib.IntN.{ℤ, pos, _+ℤ_, _-ℤ_}
 use Rattle.signed.specs.Diff.{zdiff, zarith}
 use Rattle.signed.specs.Floor.{floorDiv, modulo, modulo-lt, floor-mod, floor-unique}
 use Rattle.plan.specs.declared.types.Copy.{Copy}

@@ -15,7 +15,7 @@ use object::Verdict;
 use plan::Copy;
 use plan::End;
 
-// The image row after row sy - 1.
+// Image row sy, or the first where sy is past the last.
 fn row_after(c: Copy, sy: u64) -> u64
     requires { ⌜ (1 ≤ c .«image_height») × (sy ≤ c .«image_height») ⌝ }
     ensures { λ r. ⌜ r ≡ sy % c .«image_height» ⌝ }
@@ -92,7 +92,7 @@ fn count_strips(c: Copy, wrap: u64) -> End
     }
 }
 
-// The end of a whole copy plan. The walks are called from two places, so that the compiler leaves them out of the loop that steps.
+// The end of a whole copy plan, by a call for each way that a frame runs, so that the compiler knows `wrap` in each.
 pub fn count_entries(c: Copy) -> End
     requires { ⌜ SoundCopy c ⌝ }
     ensures { λ r. ⌜ r ≡ endOf (planOut (copyPlan c)) ⌝ }

@@ -76,7 +76,7 @@ fn steps(start: Planner, bank: &mut [u64], kept: bool, plan: &mut [u64]) -> End
     words::end_of(n, verdict)
 }
 
-// All of a request's steps: the one caller of `fresh` and `steps`, so that the compiler joins them and all that they call. Where entries are only counted a copy plan needs no step.
+// All of a request's steps: the one caller of `fresh` and `steps`, so that the compiler joins them and all that they call. Where entries are only counted a copy plan needs no step, and `steps` counts scaled plans.
 fn planned(
     object: &[u8],
     opcode: u8,

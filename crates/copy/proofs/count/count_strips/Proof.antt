@@ -34,18 +34,18 @@ rows-holds : tie.Need-rows-holds Inv-columns μ-columns Inv-rows μ-rows
 rows-holds c = started (c .strip-row .ensures .is)
 
 strip-height-requires : tie.Need-strip-height-requires Inv-columns μ-columns Inv-rows μ-rows
-strip-height-requires c κs = 
+strip-height-requires c κs =
     let r = c .before .before in
     let s = r .before .before .before .pre .0 in
     (s, (c .if1 .taken, row-less s (c .if1 .taken) (r .rows .inv)))
 
 columns-holds : tie.Need-columns-holds Inv-columns μ-columns Inv-rows μ-rows
-columns-holds c = 
+columns-holds c =
     let r = c .before .before .before in
     row-begins (r .before .before .before .pre .0) (c .before .if1 .taken) (r .rows .inv) (c .strip-height .ensures .is) (r .before .before .column-at .ensures)
 
 strip-from-requires : tie.Need-strip-from-requires Inv-columns μ-columns Inv-rows μ-rows
-strip-from-requires c κs = 
+strip-from-requires c κs =
     let e = c .before .before in
     let r = e .before .before .before .before in
     let s = r .before .before .before .pre .0 in
@@ -76,7 +76,7 @@ columns-less : tie.Need-columns-less Inv-columns μ-columns Inv-rows μ-rows
 columns-less c = let s = c .before .before .before .before .before .before .before .before .before .before .before .before .before .before .before .before .before .pre .0 in omega arith
 
 columns-again : tie.Need-columns-again Inv-columns μ-columns Inv-rows μ-rows
-columns-again c = 
+columns-again c =
     let e = c .before .before .before .before .before .before .before .before .before .before in
     let r = e .before .before .before .before in
     let s = r .before .before .before .pre .0 in
@@ -97,7 +97,7 @@ rows-less : tie.Need-rows-less Inv-columns μ-columns Inv-rows μ-rows
 rows-less c = omega arith
 
 rows-again : tie.Need-rows-again Inv-columns μ-columns Inv-rows μ-rows
-rows-again c = 
+rows-again c =
     let e = c .before .before .before in
     let r = e .before .before .before .before in
     let s = r .before .before .before .pre .0 in
@@ -107,14 +107,14 @@ returns : tie.Need-returns Inv-columns μ-columns Inv-rows μ-rows
 returns c = finished (c .if1 .left) (c .before .before .rows .inv)
 
 returns-2 : tie.Need-returns-2 Inv-columns μ-columns Inv-rows μ-rows
-returns-2 c = 
+returns-2 c =
     let e = c .before .before .before .before .before .before in
     let r = e .before .before .before .before in
     let s = r .before .before .before .pre .0 in
     strip-too-big s (e .before .before .if1 .taken) (e .before .strip-height .ensures .rows) (e .columns .inv) (c .before .before .before .before .if2 .taken) (c .before .before .before .strip-from .ensures) (c .if3 .taken)
 
 returns-3 : tie.Need-returns-3 Inv-columns μ-columns Inv-rows μ-rows
-returns-3 c = 
+returns-3 c =
     let e = c .before .before .before .before .before .before .before .before in
     let r = e .before .before .before .before in
     let s = r .before .before .before .pre .0 in
