@@ -5,6 +5,7 @@
 //! The Rust is the published text over shims that only store each call's entry, built for release.
 //! Both write eleven words an entry into a buffer that has been written before. A round runs all
 //! records of a group through one and then through the other; the best round of each counts.
+//! A second table holds the proved count of a plan's end against the proved run.
 
 #![allow(dead_code, unused_imports, unexpected_cfgs)]
 
@@ -116,22 +117,32 @@ struct Proved {
     words: Vec<u64>,
 }
 
+fn request(record: &Record) -> [u64; REQUEST_WORDS] {
+    let [ulx, uly, lrx, lry] = record.scissor.map(u64::from);
+    [
+        record.opcode.into(),
+        ulx,
+        uly,
+        lrx,
+        lry,
+        record.render_mode.into(),
+        record.address,
+    ]
+}
+
+/// The entries of a record's plan, counted without a buffer.
+fn count(record: &Record) -> usize {
+    let mut end = [0; END_WORDS];
+    proved::count(&record.object, &request(record), &mut end);
+    end[1] as usize
+}
+
 impl Proved {
     fn run(&mut self, record: &Record) -> usize {
-        let [ulx, uly, lrx, lry] = record.scissor.map(u64::from);
-        let request: [u64; REQUEST_WORDS] = [
-            record.opcode.into(),
-            ulx,
-            uly,
-            lrx,
-            lry,
-            record.render_mode.into(),
-            record.address,
-        ];
         let mut end = [0; END_WORDS];
         proved::run(
             &record.object,
-            &request,
+            &request(record),
             &mut self.bank,
             &mut self.words,
             &mut end,
@@ -161,6 +172,38 @@ fn assert_same(group: &Group, proved: &mut Proved, original: &mut Original) {
             let compared = if mine[0] == entry::RECTANGLE { 10 } else { 11 };
             assert_eq!(mine[..compared], theirs[..compared]);
         }
+    }
+}
+
+/// Plans a second of `bg_count` and of `bg_run`, for typical, random and the largest plans.
+fn print_counts(groups: &[Group], rounds: usize, proved: &mut Proved) {
+    println!(
+        "\n{:<25}{:>9}{:>13}{:>13}{:>7}\n{:<25}{:>9}{:>13}{:>13}{:>7}",
+        "", "entries", "plans/s", "plans/s", "", "", "a plan", "counted", "run", "ratio"
+    );
+    let shown = ["typical", "random", "largest"];
+    let shown = |group: &&Group| shown.iter().any(|name| group.name.starts_with(name));
+    for group in groups.iter().filter(shown) {
+        for record in &group.records {
+            assert_eq!(count(record), proved.run(record));
+        }
+        let (mut best_count, mut best_run, mut entries) = (Duration::MAX, Duration::MAX, 0);
+        for _ in 0..rounds {
+            let (time, given) = timed(group, count);
+            best_count = best_count.min(time);
+            best_run = best_run.min(timed(group, |record| proved.run(record)).0);
+            entries = given;
+        }
+        let plans = (group.times * group.records.len()) as f64;
+        let (a, b) = (best_count.as_secs_f64(), best_run.as_secs_f64());
+        println!(
+            "{:<25}{:>9.1}{:>13.0}{:>13.0}{:>7.2}",
+            group.name,
+            entries as f64 / plans,
+            plans / a,
+            plans / b,
+            b / a
+        );
     }
 }
 
@@ -205,4 +248,5 @@ fn main() {
             b / a
         );
     }
+    print_counts(&groups, rounds, &mut proved);
 }

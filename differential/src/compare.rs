@@ -68,19 +68,28 @@ struct Tally {
     short_objects: u64,
     /// Verdicts of the runs, by copy, scaled and other opcodes.
     verdicts: [[u64; 11]; 3],
+    /// Verdicts of the counts of whole plans, by the same.
+    counts: [[u64; 11]; 3],
+}
+
+fn mode(record: &Record) -> usize {
+    match record.opcode {
+        COPY => 0,
+        SCALED => 1,
+        _ => 2,
+    }
 }
 
 impl Tally {
     fn run(&mut self, record: &Record, end: &End) {
-        let mode = match record.opcode {
-            COPY => 0,
-            SCALED => 1,
-            _ => 2,
-        };
         self.runs += 1;
         self.entries += end.entries;
         self.most = self.most.max(end.entries);
-        self.verdicts[mode][end.verdict as usize] += 1;
+        self.verdicts[mode(record)][end.verdict as usize] += 1;
+    }
+
+    fn count(&mut self, record: &Record, end: &End) {
+        self.counts[mode(record)][end.verdict as usize] += 1;
     }
 
     fn add(&mut self, other: &Tally) {
@@ -89,7 +98,9 @@ impl Tally {
         self.entries += other.entries;
         self.most = self.most.max(other.most);
         self.short_objects += other.short_objects;
-        for (mine, theirs) in self.verdicts.iter_mut().zip(&other.verdicts) {
+        let mine = self.verdicts.iter_mut().chain(&mut self.counts);
+        let theirs = other.verdicts.iter().chain(&other.counts);
+        for (mine, theirs) in mine.zip(theirs) {
             for (a, b) in mine.iter_mut().zip(theirs) {
                 *a += b;
             }
@@ -97,10 +108,14 @@ impl Tally {
     }
 
     fn print(&self) {
-        println!("verdict        copy      scaled       other");
+        println!("{:>43}{:>36}", "runs", "counts");
+        println!("verdict        copy      scaled       other        copy      scaled       other");
         for verdict in 0..11 {
-            let [copy, scaled, other] = [0, 1, 2].map(|mode: usize| self.verdicts[mode][verdict]);
-            println!("{verdict:<7}{copy:>12}{scaled:>12}{other:>12}");
+            print!("{verdict:<7}");
+            for by_mode in self.verdicts.iter().chain(&self.counts) {
+                print!("{:>12}", by_mode[verdict]);
+            }
+            println!();
         }
         println!(
             "{} records, {} of them with fewer than 40 bytes of object; {} runs, {} entries, \
@@ -167,6 +182,7 @@ fn compare(case: &Case, buffers: &mut Buffers, tally: &mut Tally) -> Option<Stri
     if let Some(text) = count_difference(case, &whole.end, random.next(), buffers) {
         return Some(text);
     }
+    tally.count(&case.record, &whole.end);
     for room in rooms(whole.end.entries, &mut random) {
         let mut expected = None;
         if room < 11 * whole.end.entries as usize {

@@ -2,3 +2,4 @@
 pub mod Counting
 pub mod Last
 pub mod Onward
+pub mod Wrap

@@ -12,7 +12,6 @@ pub use strip::strip_height;
 pub use strip::strip_of;
 pub use strip::strip_row;
 pub use types::CopyNext;
-pub use types::Counted;
 pub use types::Due;
 pub use types::Place;
 pub use types::Stage;

@@ -10,7 +10,7 @@ use plan::Copy;
 use plan::Strip;
 
 // The image column of cell x; a flipped frame counts from its right end.
-fn column_at(c: Copy, x: u64) -> u64
+pub(crate) fn column_at(c: Copy, x: u64) -> u64
     requires { ⌜ SoundCopy c ⌝ }
     requires { ⌜ x < c .width ⌝ }
     ensures { λ r. ⌜ Less (modulo (column c x) (c .«image_width»)) (c .«image_width») r ⌝ }
@@ -72,12 +72,13 @@ fn line_of(siz: u64, load_width: u64) -> u64
     }
 }
 
-pub fn strip_of(c: Copy, x: u64) -> Strip
+// The strip at cell x, from its image column.
+pub(crate) fn strip_from(c: Copy, x: u64, sx: u64) -> Strip
     requires { ⌜ SoundCopy c ⌝ }
     requires { ⌜ x < c .width ⌝ }
+    requires { ⌜ Less (modulo (column c x) (c .«image_width»)) (c .«image_width») sx ⌝ }
     ensures { λ r. ⌜ StripIs c x r ⌝ }
 {
-    let sx = column_at(c, x);
     let strip_width = width_at(c, x, sx);
     let source_left = source_left(c, sx, strip_width);
     let aligned_left = aligned(c, source_left);
@@ -91,6 +92,14 @@ pub fn strip_of(c: Copy, x: u64) -> Strip
         load_width,
         line,
     }
+}
+
+pub fn strip_of(c: Copy, x: u64) -> Strip
+    requires { ⌜ SoundCopy c ⌝ }
+    requires { ⌜ x < c .width ⌝ }
+    ensures { λ r. ⌜ StripIs c x r ⌝ }
+{
+    strip_from(c, x, column_at(c, x))
 }
 
 // The image row of line y.

@@ -1,5 +1,4 @@
 // Where a copy walk stands, and what one step of it answers.
-use object::Verdict;
 use plan::Copy;
 use plan::Entry;
 use plan::Strip;
@@ -51,10 +50,4 @@ pub enum CopyNext {
     TooBig,
     Overflow(Entry),
     Finished,
-}
-
-// The entries of a whole plan, and how it ends.
-pub struct Counted {
-    pub entries: u64,
-    pub verdict: Verdict,
 }

@@ -17,6 +17,8 @@ use Rattle.plan.specs.Next.{ended}
 use Rattle.plan.specs.Sound.{Narrow, EntryIn}
 use Rattle.plan.specs.Whole.{copyOut, scaledOut, planOf}
 use Rattle.plan.specs.Steps.{Coming, comingOf, nextOf, answerOf, bankNext}
+use Rattle.copy.specs.declared.types.Due.the-variants as due
+use Rattle.copy.specs.declared.types.Stage.the-variants as stage
 use Rattle.copy.specs.Coming.{comingCopy}
 use Rattle.copy.specs.Walk as walk
 use Rattle.copy.specs.Kept.{leftCopy}
@@ -122,9 +124,16 @@ abbrev pub courseOf : Reached → Course
 courseOf (reached.At s p) = course.Scaled s p
 courseOf (reached.Ended v) = course.Over v
 
+-- a copy plan starts before its first row, with the texture image due
+abbrev pub atStart : Course → Type 0
+atStart (course.Copy s p) = s ≡ stage.Strip due.Image
+atStart (course.Scaled s p) = Unit {0}
+atStart (course.Over v) = Unit {0}
+
 -- a course with just a plan to come
 pub record Starts (plan : Plan) (r : Course) : Type 0 where
   pub is : comingCourse r ≡ plan
+  pub first : atStart r
   pub sound : soundCourse r
   pub left : leftCourse r ≤ 6000000
 
@@ -141,4 +150,5 @@ StartsScaled bg scissor mode address r = (bytes : List ℕ) (opcode : ℕ) → S
 pub record Fresh (bytes : List ℕ) (opcode : ℕ) (scissor : Scissor) (mode address : ℕ) (p : Planner) : Type 0 where
   pub coming : coming p ≡ comingOf (planOf (requestOf bytes opcode scissor mode address))
   pub counts : p .counts ≡ zeroCounts
+  pub first : atStart (p .course)
   pub sound : Sound p

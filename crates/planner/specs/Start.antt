@@ -23,23 +23,27 @@ use Rattle.plan.specs.Copy.{copyOf, copyEmpty, copyPlan}
 use Rattle.plan.specs.Scaled.{clipOf, scaledEmpty, startOf, scaledOf, slicesBad, firstOf, scaledPlan}
 use Rattle.plan.specs.Whole.{copyOut, scaledOut, checkedOut, planWith, planOf}
 use Rattle.plan.specs.Sound.{SoundCopy}
-use Rattle.plan.specs.Steps.{comingOf}
+use Rattle.plan.specs.Run.{endOf}
+use Rattle.plan.specs.Steps.{Coming, comingOf}
+use Rattle.copy.specs.declared.types.Place.{Place}
+use Rattle.copy.specs.declared.types.Stage.{Stage}
 use Rattle.copy.specs.declared.types.Stage.the-variants as stage
 use Rattle.copy.specs.declared.types.Due.the-variants as due
-use Rattle.copy.specs.Walk.{startAt}
+use Rattle.copy.specs.Walk.{startAt, SoundStart}
 use Rattle.copy.specs.Coming.{comingCopy, copy-start}
 use Rattle.copy.specs.Kept.{start-sound, start-left}
 use Rattle.passes.specs.declared.types.Reached.{Reached}
 use Rattle.passes.specs.declared.types.Reached.the-variants as reached
 use Rattle.passes.specs.Sound.{Reaches}
-use Rattle.words.specs.Counts.{zeroCounts, zero-countable, end-of}
+use Rattle.words.specs.declared.count.Counts.{Counts}
+use Rattle.words.specs.Counts.{zeroCounts, zero-countable, countedAll, endWith, end-of}
 use Rattle.planner.specs.declared.types.Course.{Course}
 use Rattle.planner.specs.declared.types.Course.the-variants as course
 use Rattle.planner.specs.declared.types.Planner.{Planner}
 use Rattle.planner.specs.Coming.{comingCourse, comingFrom, coming, Sound, Starts, StartsCopy, StartsScaled, Fresh, courseOf, requestOf}
 
 over-starts : (plan : Plan) (v : Verdict) → ended [] v ≡ plan → Starts plan (course.Over v)
-over-starts plan v e = record { is = e; sound = tt; left = omega arith }
+over-starts plan v e = record { is = e; first = tt; sound = tt; left = omega arith }
 
 -- D "then an empty frame answers 0 with no entries, then 6", by the tests
 out-none : (bg : ObjBg) (q : Request) → copyEmpty (copyOf bg (q .scissor) (q .address)) ≡ true → copyOut bg q ≡ yield tt
@@ -75,6 +79,7 @@ module _ (bg : ObjBg) (s : Scissor) (address : ℕ) where
       λ bytes opcode mode.
       record {
         is = copy-start (copyOf bg s address) ∙ sym (ap planOut (out-copy bg (requestOf bytes opcode s mode address) t));
+        first = refl;
         sound = start-sound (copyOf bg s address) h;
         left = start-left (copyOf bg s address);
       }
@@ -90,7 +95,7 @@ module _ (bg : ObjBg) (s : Scissor) (mode address : ℕ) where
       → Reaches (planOut (scaledPlan (stripsOf bg s mode address) (clipOf bg s) (firstOf (stripsOf bg s mode address) (startOf bg (clipOf bg s))))) 16384 r → StartsScaled bg s mode address (courseOf r)
   scaled-begins t u (reached.At stage place) g =
       let l = g .left in
-      λ bytes opcode. record { is = g .is ∙ sym (ap planOut (out-scaled bg (requestOf bytes opcode s mode address) t u)); sound = g .sound; left = omega arith }
+      λ bytes opcode. record { is = g .is ∙ sym (ap planOut (out-scaled bg (requestOf bytes opcode s mode address) t u)); first = tt; sound = g .sound; left = omega arith }
   scaled-begins t u (reached.Ended v) g = λ bytes opcode. over-starts _ v (g .is ∙ sym (ap planOut (out-scaled bg (requestOf bytes opcode s mode address) t u)))
 
 -- a fresh planner, by what the checks say
@@ -105,6 +110,7 @@ module _ (bytes : List ℕ) (opcode : ℕ) (s : Scissor) (mode address : ℕ) wh
       record {
         coming = ap (λ (p : Plan). comingFrom p zeroCounts) (g .is) ∙ ap (λ (e : End). record { entries = planOf asked .entries; left = planOf asked .left; end = e }) (end-of (planOf asked));
         counts = refl;
+        first = g .first;
         sound = record { course = g .sound; counts = zero-countable; few = omega arith };
       }
 
@@ -119,3 +125,24 @@ module _ (bytes : List ℕ) (opcode : ℕ) (s : Scissor) (mode address : ℕ) wh
   pub fresh-scaled : (bg : ObjBg) (r : Course) → checkedOf 4 bytes opcode s ≡ checked.Scaled bg → StartsScaled bg s mode address r → Fresh bytes opcode s mode address (record { course = r; counts = zeroCounts })
   unfolding planOf planWith checkedOut
   fresh-scaled bg r e g = fresh-from r (rw e (g bytes opcode))
+
+  -- of a copy plan, all of it is to come from its frame
+  module _ (p : Planner) (st : Stage) (place : Place) (e : p .course ≡ course.Copy st place) (f : Fresh bytes opcode s mode address p) where
+    copied : SoundStart place
+    copied = let at = rw e at (f .first) in rw at at (rw e at (f .sound .course))
+
+    pub copied-sound : SoundCopy (place .copy)
+    copied-sound = copied .copy
+
+    copied-coming : comingCourse (p .course) ≡ planOut (copyPlan (place .copy))
+    copied-coming =
+        let at = rw e at (f .first) in
+        ap comingCourse e ∙ ap (λ (t : Stage). comingCopy t place) at ∙ ap (comingCopy (stage.Strip due.Image)) (copied .is) ∙ copy-start (place .copy)
+
+    pub copied-end : endOf (planOut (copyPlan (place .copy))) ≡ endOf (planOf asked)
+    unfolding coming
+    copied-end =
+        ap endOf (sym copied-coming)
+        ∙ sym (end-of (comingCourse (p .course)))
+        ∙ ap (λ (n : Counts). endWith (countedAll n (comingCourse (p .course) .entries)) (comingCourse (p .course) .verdict)) (sym (f .counts))
+        ∙ ap (λ (c : Coming). c .end) (f .coming)

@@ -11,6 +11,7 @@ ghost use Rattle.words.specs.Places.{PlacesIn, settledOf};
 ghost use Rattle.planner.specs.Coming.{Sound, coming, requestOf};
 ghost use Rattle.planner.specs.Ran.{RanIs, StepsTo, strideOf};
 use crate::start::fresh;
+use crate::types::Course;
 use crate::types::Given;
 use crate::types::Planner;
 use object::Scissor;
@@ -75,7 +76,7 @@ fn steps(start: Planner, bank: &mut [u64], kept: bool, plan: &mut [u64]) -> End
     words::end_of(n, verdict)
 }
 
-// All of a request's steps: the one caller of `fresh` and `steps`, so that the compiler joins them and all that they call.
+// All of a request's steps: the one caller of `fresh` and `steps`, so that the compiler joins them and all that they call. Where entries are only counted a copy plan needs no step, and `steps` counts scaled plans.
 fn planned(
     object: &[u8],
     opcode: u8,
@@ -90,6 +91,12 @@ fn planned(
     ensures { λ r. ⌜ StepsTo kept (comingOf (planOf (requestOf (now (object .entry)) opcode scissor mode address))) (now (plan .entry)) (now (bank .entry)) (now (plan .exit)) (now (bank .exit)) r ⌝ }
 {
     let p = fresh(object, opcode, scissor, mode, address);
+    if !kept {
+        let course = p.course;
+        if let Course::Copy(_, place) = course {
+            return copy::count_entries(place.copy);
+        }
+    }
     steps(p, &mut *bank, kept, &mut *plan)
 }
 

@@ -1,30 +1,33 @@
--- `copy::count::refused`: each arm is one case of the definition. Assumes nothing.
-use mathlib.Core.Path.{sym, _∙_, ap}
-use Rattle.copy.specs.Walk.{requestIn}
-use Rattle.copy.specs.Count.{refusedIn}
+-- `copy::count::refused`: the sum and the difference say the same of the last address. Assumes nothing.
+use native.Mathlib.Nat.{mul-le-mul}
+use native.Mathlib.Omega.{arith}
+use Rattle.signed.specs.Bound.{fits-mul}
 use borrow.Author.Needs.{needs}
+use Rattle.copy.proofs.Counting.{past-is}
 use Rattle.copy.proofs.count.refused.Statement.{statement}
 use Rattle.copy.proofs.count.refused.Tie as tie
 
-area-of-requires : tie.Need-area-of-requires
-area-of-requires c κs = search needs
+bytes-of-requires : tie.Need-bytes-of-requires
+bytes-of-requires c κs = search needs
 
-request-in-requires : tie.Need-request-in-requires
-request-in-requires c κs = search needs
+bytes-of-requires-2 : tie.Need-bytes-of-requires-2
+bytes-of-requires-2 c κs = search needs
 
-enum-told : tie.Need-enum-told
-enum-told c = search needs
+mul-offset : tie.Need-mul-offset
+mul-offset c = fits-mul 65532 16383 tt (search needs) (search needs)
 
-enum-told-2 : tie.Need-enum-told-2
-enum-told-2 c = search needs
+add-offset : tie.Need-add-offset
+add-offset c = omega (arith, mul-le-mul {n₁ = c .bytes-of2 .result} {m₁ = c .before .before .args .sy} {n₂ = 65532} {m₂ = 16383} (search needs) (search needs))
+
+sub-result : tie.Need-sub-result
+sub-result c = search needs
 
 returns : tie.Need-returns
-returns c = ap refusedIn (sym (c .enum-told .given .1) ∙ c .before .before .request-in .ensures ∙ ap (requestIn (c .before .before .before .before .args .p .copy)) (c .before .before .before .area-of .ensures))
-
-returns-2 : tie.Need-returns-2
-returns-2 c = ap refusedIn (sym (c .enum-told2 .given .1) ∙ c .before .before .request-in .ensures ∙ ap (requestIn (c .before .before .before .before .args .p .copy)) (c .before .before .before .area-of .ensures))
+returns c =
+    let a = c .before .before .before .args in
+    rw (← c .before .before .bytes-of .ensures .is, ← c .before .bytes-of2 .ensures .is) (past-is (a .c .address) _ (search needs))
 
 pub refused-spec : {M : Type 1} → statement M
 refused-spec =
     tie.close
-    (tie.spec area-of-requires request-in-requires enum-told enum-told-2 returns returns-2)
+    (tie.spec bytes-of-requires bytes-of-requires-2 mul-offset add-offset sub-result returns)

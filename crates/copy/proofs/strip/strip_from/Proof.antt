@@ -1,12 +1,9 @@
--- `copy::strip::strip_of`: the calls are the definition's steps, and its law has the bounds. Assumes nothing.
+-- `copy::strip::strip_from`: the calls are the definition's steps, and its law has the bounds. Assumes nothing.
 use Rattle.plan.specs.Copy.{stripOf}
 use Rattle.copy.specs.Strip.{strip-is}
 use borrow.Author.Needs.{needs}
-use Rattle.copy.proofs.strip.strip_of.Statement.{statement}
-use Rattle.copy.proofs.strip.strip_of.Tie as tie
-
-column-at-requires : tie.Need-column-at-requires
-column-at-requires c κs = search needs
+use Rattle.copy.proofs.strip.strip_from.Statement.{statement}
+use Rattle.copy.proofs.strip.strip_from.Tie as tie
 
 width-at-requires : tie.Need-width-at-requires
 width-at-requires c κs = search needs
@@ -29,21 +26,20 @@ line-of-requires c κs = search needs
 returns : tie.Need-returns
 unfolding stripOf
 returns c =
-    let a = c .before .before .before .before .before in
-    strip-is (a .args .c) (a .args .x) (a .pre .0) (a .pre .1)
+    let a = c .before .before .before .before in
+    strip-is (a .args .c) (a .args .x) (a .pre .0) (a .pre .1 .0)
     (rw (
       c .line-of .ensures,
       c .before .aligned .ensures .is,
       c .before .before .source-left .ensures .is,
       c .before .before .before .width-at .ensures,
-      c .before .before .before .before .column-at .ensures .is,
+      a .pre .1 .1 .is,
     ))
 
-pub strip-of-spec : {M : Type 1} → statement M
-strip-of-spec =
+pub strip-from-spec : {M : Type 1} → statement M
+strip-from-spec =
     tie.close
     (tie.spec
-    column-at-requires
     width-at-requires
     source-left-requires
     aligned-requires
