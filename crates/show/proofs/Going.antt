@@ -10,9 +10,7 @@ use borrow.Author.Tests.{lt-ltb, le-ltb}
 use Rattle.plan.specs.declared.types.Entry.{Entry}
 use Rattle.plan.specs.declared.types.End.{End}
 use Rattle.plan.specs.declared.types.Answer.the-variants as answer
-use Rattle.plan.specs.Run.{entryWords}
 use Rattle.plan.specs.Steps.{Coming, nextOf}
-use Rattle.words.specs.Eleven.{eleven}
 use Rattle.planner.specs.declared.types.Planner.{Planner}
 use Rattle.planner.specs.declared.types.Given.{Given}
 use Rattle.planner.specs.declared.types.Given.the-variants as given
@@ -20,8 +18,8 @@ use Rattle.planner.specs.declared.types.Step.{Step}
 use Rattle.planner.specs.Coming.{coming, answerIn, Sound, StepGives}
 use Rattle.planner.specs.Step.{gave-entry, gave-rest, gave-end}
 use Rattle.show.specs.declared.text.Chunk as code
-use Rattle.show.specs.Text.{row, line, widthsOf, entryText, endText}
-use Rattle.show.specs.Lines.{withText, PutIs, totalOf}
+use Rattle.show.specs.Text.{entryText, endText}
+use Rattle.show.specs.Lines.{withText, PutIs}
 use Rattle.show.specs.Chunk.{Chunk, nothing, andThen, chunkOf, chunk, ChunkIs}
 use Rattle.show.proofs.Texts.{with-nil, with-after}
 use Rattle.show.proofs.Rows.{entry-most}

@@ -1,11 +1,11 @@
 -- A text at a place: one byte more at either end, and another text over a part of it.
 -- Assumes nothing.
 use mathlib.Core.Path.{_≡_, refl, sym, ap, _∙_}
-use mathlib.Core.List.{List, [], _∷_, _++_, append-assoc, append-nil}
+use mathlib.Core.List.{List, [], _∷_, _++_, append-assoc}
 use Prim.Native.Nat.{ℕ, suc, _+_, _-_, _≤_, _<_}
 use native.Mathlib.Omega.{arith}
-use lib.ListN.{length, take, drop, set, getD, replicate, length-append, length-drop, take-append-drop}
-use lib.Seq.{take-suc, set-at, set-split, length-take-le, take-append-le, take-add, take-at, drop-at, drop-drop, take-append-add, drop-append-add}
+use lib.ListN.{length, take, drop, set, getD, length-append, length-drop, take-append-drop}
+use lib.Seq.{take-suc, set-at, set-split, length-take-le, take-add, take-at, drop-at, drop-drop}
 use Rattle.show.specs.Lines.{withText}
 
 module _ (out : List ℕ) where

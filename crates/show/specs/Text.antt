@@ -1,6 +1,6 @@
 -- The text of a plan, by document 01: D "Columns are right-justified decimals, negative ones with a minus sign: kind 2 wide, addresses and length 21, the rest 8".
 -- Assumes nothing.
-use mathlib.Core.Bool.{Bool, true, false, cond, _&&_}
+use mathlib.Core.Bool.{Bool, cond, _&&_}
 use mathlib.Core.List.{List, [], _∷_, _++_}
 use Prim.Native.Nat.{ℕ, zero, suc, _+_, _-_, _/_, _%_, _^_}
 use lib.Dec.{ltb, leb}

@@ -1,7 +1,6 @@
 // One column, over blanks: a number's digits from the right, and its sign.
 ghost use mathlib.Core.Path.{_≡_};
-ghost use mathlib.Core.Bool.{cond, true};
-ghost use Prim.Native.Nat.{_+_, _-_, _%_, _^_, _≤_};
+ghost use Prim.Native.Nat.{_+_, _-_, _%_, _≤_};
 ghost use lib.ListN.{length, replicate};
 ghost use Rattle.show.specs.Text.{space, isNegative, magnitudeOf, cell};
 ghost use Rattle.show.specs.Lines.{withText, Blank, DigitsIs, PutIs};

@@ -1,27 +1,16 @@
 -- `show::case::case_planner` meets its contract: a fresh planner has its request's whole plan to come, and the plan of no object is the short case's. Assumes nothing.
-use mathlib.Core.Path.{_≡_, refl, sym, ap, _∙_}
-use mathlib.Core.List.{[]}
-use Prim.Native.Nat.{ℕ}
+use mathlib.Core.Path.{sym, ap, _∙_}
 use native.Mathlib.Omega.{arith}
 use lib.Seq.{length-take-le}
 use borrow.Author.Needs.{needs}
-use Rattle.object.specs.declared.types.Scissor.{Scissor}
-use Rattle.object.specs.declared.types.Verdict.the-variants as verdict
 use Rattle.object.specs.Check.{checkedOf}
-use Rattle.plan.specs.Next.{ended}
-use Rattle.plan.specs.Out.{Plan}
 use Rattle.plan.specs.Request.{Request}
 use Rattle.plan.specs.Steps.{comingOf}
-use Rattle.plan.specs.Whole.{planOf, planWith, checkedOut}
-use Rattle.planner.specs.Coming.{requestOf}
+use Rattle.plan.specs.Whole.{planOf, checkedOut}
 use Rattle.request.specs.Stored.{request-of, short-of}
 use Rattle.show.specs.Case.{case-long, case-short}
 use Rattle.show.proofs.case.case_planner.Statement.{statement}
 use Rattle.show.proofs.case.case_planner.Tie as tie
-
-no-object : (scissor : Scissor) (mode address : ℕ) → planOf (requestOf [] 10 scissor mode address) ≡ ended [] verdict.Short
-unfolding planOf checkedOut checkedOf
-no-object scissor mode address = refl
 
 from-bytes-requires : tie.Need-from-bytes-requires
 from-bytes-requires c κs = search needs
@@ -34,7 +23,7 @@ slice-aggregate-fresh c =
     let q = c .before .before in
     let f = q .before .before in
     let bs = f .before .before .args .bytes .now in
-    sym (length-take-le 40 bs (omega (arith, request-of bs _ (sym (q .q .given .1) ∙ f .from-bytes .ensures) .0)))
+    sym (length-take-le _ bs (omega (arith, request-of bs _ (sym (q .q .given .1) ∙ f .from-bytes .ensures) .0)))
 
 fresh-requires : tie.Need-fresh-requires
 fresh-requires c κs = search needs
@@ -60,13 +49,14 @@ returns c =
     }
 
 returns-2 : tie.Need-returns-2
+unfolding planOf checkedOut checkedOf
 returns-2 c =
     let e = c .before .before in
     let f = e .before .before in
     let bs = f .before .before .args .bytes .now in
     let i = short-of bs (sym (e .enum-told .given .1) ∙ f .from-bytes .ensures) in
     record {
-      coming = c .fresh2 .ensures .coming ∙ ap comingOf (no-object _ 0 0 ∙ sym (case-short bs i));
+      coming = c .fresh2 .ensures .coming ∙ ap comingOf (sym (case-short bs i));
       sound = c .fresh2 .ensures .sound;
     }
 
