@@ -1,29 +1,60 @@
-// Prints the plan of a case of 61 bytes on standard input. Fewer bytes print an end with verdict 2.
+// Prints the plan of the case on standard input. It only reads, calls and writes; what the system's calls read and write no contract can say.
+ghost use Rattle.planner.specs.Coming.{Sound};
+ghost use Rattle.bgplan.specs.Input.{InputIs};
 use libc::STDIN_FILENO;
-use object::Verdict;
-use plan::End;
-use show::Printed;
+use libc::STDOUT_FILENO;
+use planner::Planner;
 
-// The end of a case that is too short.
-fn short() -> Printed {
-    show::print_end(End {
-        verdict: Verdict::Short,
-        entries: 0,
-        rectangles: 0,
-        words: 0,
-    })
+// How many bytes there were, or that a read failed, which is no end of them.
+enum Input {
+    Bytes(usize),
+    Failed,
+}
+
+// Bytes of standard input until they are all there or it ends.
+fn read(bytes: &mut [u8]) -> Input
+    ensures { λ r. ⌜ InputIs (now (bytes .exit)) r ⌝ }
+{
+    let mut n: usize = 0;
+    while n < bytes.len() {
+        let rest = &mut bytes[n..];
+        let got = libc::read(STDIN_FILENO, rest);
+        if got < 0 {
+            return Input::Failed;
+        }
+        let more = io::count(got, rest);
+        if more == 0 {
+            return Input::Bytes(n);
+        }
+        n = n + more;
+    }
+    Input::Bytes(n)
+}
+
+// The text of all that a planner has to come, in large pieces.
+fn print(start: Planner)
+    requires { ⌜ Sound start ⌝ }
+{
+    let mut out = io::large_buffer();
+    let mut planner = start;
+    loop {
+        let c = show::next_text(planner, &mut out);
+        let count = c.count;
+        if !io::write_all(STDOUT_FILENO, &out[..count]) {
+            os::fail(b"bgplan: standard output");
+            return;
+        }
+        if c.done {
+            return;
+        }
+        planner = c.planner;
+    }
 }
 
 fn main() {
     let mut bytes = [0u8; 61];
-    let got = io::read_full(STDIN_FILENO, &mut bytes);
-    let printed = if got < 61 {
-        short()
-    } else {
-        show::print_case(&bytes)
-    };
-    match printed {
-        Printed::End(_) => {}
-        Printed::Failed => os::fail(b"bgplan: standard output"),
+    match read(&mut bytes) {
+        Input::Bytes(n) => print(show::case_planner(&bytes[..n])),
+        Input::Failed => os::fail(b"bgplan: standard input"),
     }
 }

@@ -8,7 +8,10 @@ ghost use Rattle.plan.specs.Whole.{planOf};
 ghost use Rattle.replay.specs.Outcome.{wordsIn, outcomeOf};
 use crate::outcome::Outcome;
 use crate::outcome::run_into;
+use object::Verdict;
 use object::field_from;
+use plan::End;
+use request::Case;
 
 // A bank's words, eight bytes each.
 pub(crate) fn bank_of(bytes: &[u8]) -> [u64; 136]
@@ -47,7 +50,20 @@ pub(crate) fn record_outcome(bytes: &[u8], bank: [u64; 136]) -> Outcome
 {
     let count = at_most(bytes, 61, 1, 40);
     let room = at_most(bytes, 62, 2, 2816);
-    let q = request::from_bytes(bytes);
+    // A record is longer than a case, so it is never short.
+    let Case::Request(q) = request::from_bytes(bytes) else {
+        let end = End {
+            verdict: Verdict::Short,
+            entries: 0,
+            rectangles: 0,
+            words: 0,
+        };
+        return Outcome {
+            end,
+            entries: 0,
+            bank: 0,
+        };
+    };
     let mut plan = buffer();
     let mut words = bank;
     run_into(&bytes[..count], q, &mut words, &mut plan[..room])

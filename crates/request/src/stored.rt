@@ -1,11 +1,11 @@
 // A case: 40 bytes of object, four edges of 2, the render mode in 4, the opcode in 1, the address in 8.
 ghost use mathlib.Core.Path.{_≡_};
-ghost use Prim.Native.Nat.{ℕ, _+_, _≤_};
+ghost use Prim.Native.Nat.{_+_, _≤_};
 ghost use lib.IntN.{pos};
-ghost use lib.ListN.{length, take};
+ghost use lib.ListN.{length};
 ghost use Rattle.object.specs.Layout.{read};
-ghost use Rattle.plan.specs.Check.{requestAt};
-ghost use Rattle.request.specs.Host.{withBytes};
+ghost use Rattle.request.specs.Stored.{askedAt, caseOf};
+use crate::types::Case;
 use crate::types::Request;
 use object::Scissor;
 use object::field_from;
@@ -31,10 +31,10 @@ fn mode(s: &[u8], at: usize) -> u32
     field_from(s, at, 4) as u32
 }
 
-// However many of the object's bytes the planner gets.
-pub fn from_bytes(s: &[u8]) -> Request
+// What a case asks for besides its object.
+fn asked(s: &[u8]) -> Request
     requires { ⌜ 61 ≤ length (now s) ⌝ }
-    ensures { λ r. ⌜ ((n : ℕ) → withBytes (take n (now (s .entry))) r ≡ requestAt n (now (s .entry))) ⌝ }
+    ensures { λ r. ⌜ r ≡ askedAt (now (s .entry)) ⌝ }
 {
     let scissor = Scissor {
         ulx: edge(s, 40),
@@ -47,5 +47,16 @@ pub fn from_bytes(s: &[u8]) -> Request
         scissor,
         mode: mode(s, 48),
         address: field_from(s, 53, 8),
+    }
+}
+
+// Any bytes; those beyond the 61st are not read.
+pub fn from_bytes(s: &[u8]) -> Case
+    ensures { λ r. ⌜ r ≡ caseOf (now (s .entry)) ⌝ }
+{
+    if s.len() < 61 {
+        Case::Short
+    } else {
+        Case::Request(asked(s))
     }
 }

@@ -7,3 +7,9 @@ pub struct Request {
     pub mode: u32,
     pub address: u64,
 }
+
+// What the bytes of a case ask for; or that they are fewer than a case's 61.
+pub enum Case {
+    Request(Request),
+    Short,
+}

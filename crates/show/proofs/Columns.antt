@@ -1,117 +1,176 @@
--- A column written from the right is the column: what a pen still writes, in front of what stands, stays the same from place to place.
+-- A column: digits from the right, then the mark, over blanks that stand already.
 -- Assumes nothing.
 use mathlib.Core.Path.{_≡_, refl, sym, ap, _∙_}
-use mathlib.Core.Bool.{Bool, true, false, cond}
-use mathlib.Core.List.{List, [], _∷_, _++_, append-assoc}
-use Prim.Native.Nat.{ℕ, zero, suc, _+_, _-_, _/_, _%_, _^_, _≤_, _<_}
+use mathlib.Core.Bool.{Bool, true, false, cond, _&&_}
+use mathlib.Core.List.{List, [], _∷_, _++_, append-assoc, append-nil}
+use Prim.Native.Nat.{ℕ, zero, suc, _+_, _-_, _/_, _%_, _≤_, _<_}
 use native.Mathlib.Omega.{arith}
-use lib.Dec.{leb}
-use lib.ListN.{length, take, drop, set, replicate, length-append, length-replicate, length-set}
-use lib.Seq.{set-split, take-set-le, drop-at, take-at, take-add, length-take-le}
-use Rattle.show.specs.declared.column.Pen.{Pen}
-use Rattle.show.specs.Text.{space, minus, leading, column, negative, penOf, cell, glyphOf, nextOf, penned}
+use lib.Dec.{ltb, leb}
+use lib.ListN.{length, take, drop, set, replicate, length-append, length-replicate, replicate-append-replicate}
+use lib.Seq.{take-take}
+use borrow.Author.Tests.{ltb-true, ltb-false}
+use Rattle.show.specs.Text.{space, minus, digitsOf, leading, column, isNegative, magnitudeOf, cell}
+use Rattle.show.specs.Lines.{withText, PutIs, Blank, DigitsIs}
+use Rattle.show.proofs.Texts.{with-nil, with-length, with-before, with-lead}
 
 -- ---- lengths
+
+either-most : (t : Bool) (xs : List ℕ) (w : ℕ) → length xs ≤ w → length (cond t xs []) ≤ w
+either-most true xs w a = a
+either-most false xs w a = omega arith
+
+pub digits-most : (w n : ℕ) → length (digitsOf w n) ≤ w
+unfolding digitsOf
+digits-most zero n = omega arith
+digits-most (suc w) n =
+    let l = either-most (leb 10 n) (digitsOf w (n / 10)) w (digits-most w (n / 10)) in
+    omega (arith, length-append (cond (leb 10 n) (digitsOf w (n / 10)) []) ((48 + n % 10) ∷ []))
 
 leading-length : (mark w : ℕ) → length (leading mark w) ≡ w
 unfolding leading
 leading-length mark zero = refl
 leading-length mark (suc w) = length-append (replicate w space) (mark ∷ []) ∙ omega (arith, length-replicate w space)
 
-either-length : (t : Bool) (xs ys : List ℕ) (w : ℕ) → length xs ≡ w → length ys ≡ w → length (cond t xs ys) ≡ w
-either-length true xs ys w a b = a
-either-length false xs ys w a b = b
-
-column-length : (mark w n : ℕ) → length (column mark w n) ≡ w
-unfolding column
-column-length mark zero n = refl
-column-length mark (suc w) n =
-    let l = either-length (leb 10 n) (column mark w (n / 10)) (leading mark w) w (column-length mark w (n / 10)) (leading-length mark w) in
-    length-append (cond (leb 10 n) (column mark w (n / 10)) (leading mark w)) ((48 + n % 10) ∷ []) ∙ omega arith
-
 pub cell-length : (w x : ℕ) → length (cell w x) ≡ w
-unfolding cell
-cell-length w x = column-length (penOf w x .mark) w (penOf w x .rest)
+unfolding cell column
+cell-length w x =
+    let n = magnitudeOf w x in
+    let mark = cond (isNegative w x) minus space in
+    length-append (leading mark (w - length (digitsOf w n))) (digitsOf w n) ∙ omega (arith, leading-length mark (w - length (digitsOf w n)), digits-most w n)
 
--- ---- a pen writes a column
+-- ---- digits from the right
 
-abbrev pen : ℕ → ℕ → Bool → Pen
-pen n mark more = record { rest = n; mark = mark; more = more }
+abbrev owed : Bool → (k n : ℕ) → List ℕ
+owed more k n = cond more (digitsOf k n) []
 
-blanks : (w : ℕ) → replicate w space ++ (space ∷ []) ≡ space ∷ replicate w space
-blanks zero = refl
-blanks (suc w) = ap (λ (l : List ℕ). space ∷ l) (blanks w)
+-- what is still owed, in front of what is done, is the number
+pub record Writing (out₀ : List ℕ) (at end n₀ : ℕ) (out : List ℕ) (n : ℕ) (more : Bool) (i : ℕ) : Type 0 where
+  pub from : at ≤ i
+  pub done : List ℕ
+  pub place : i + length done ≡ end
+  pub is : digitsOf (end - at) n₀ ≡ owed more (i - at) n ++ done
+  pub stands : out ≡ withText out₀ i done
+
+pub writing-start : (out : List ℕ) (at end n : ℕ) → at ≤ end → Writing out at end n out n true end
+writing-start out at end n l =
+    record { from = l; done = []; place = omega arith; is = sym (append-nil (digitsOf (end - at) n)); stands = sym (with-nil out end) }
+
+both : (a b : Bool) → (a && b) ≡ true → (a ≡ true) × (b ≡ true)
+both true b e = (refl, e)
+both false b e = let z : _≡_ {A = ℕ} 0 1 = cc in absurd (omega arith)
+
+module _ (out₀ : List ℕ) (at end n₀ : ℕ) (out : List ℕ) (n : ℕ) (more : Bool) (i : ℕ) (h : Writing out₀ at end n₀ out n more i) where
+  pub still : (more && ltb at i) ≡ true → at < i
+  still t = ltb-true at i (both more (ltb at i) t .1)
+
+  -- one place more to the left
+  pub writing-more : (g : ℕ) → (more && ltb at i) ≡ true → end ≤ length out₀ → g ≡ 48 + n % 10 → Writing out₀ at end n₀ (set out (i - 1) g) (n / 10) (leb 10 n) (i - 1)
+  unfolding digitsOf
+  writing-more g t room e =
+      let l = still t in
+      let p = h .place in
+      let k : i - at ≡ suc (i - 1 - at) = omega arith in
+      let j : i ≡ i - 1 + 1 = omega arith in
+      let rest = cond (leb 10 n) (digitsOf (i - 1 - at) (n / 10)) [] in
+      record {
+        from = omega arith;
+        done = g ∷ h .done;
+        place = omega arith;
+        is =
+            h .is
+            ∙ (λ d. owed (both more (ltb at i) t .0 d) (k d) n ++ h .done)
+            ∙ append-assoc rest ((48 + n % 10) ∷ []) (h .done)
+            ∙ ap (λ (x : ℕ). rest ++ x ∷ h .done) (sym e);
+        stands = ap (λ (x : List ℕ). set x (i - 1) g) (h .stands ∙ ap (λ (x : ℕ). withText out₀ x (h .done)) j) ∙ with-before out₀ (i - 1) (h .done) g (omega arith);
+      }
+
+  -- the number stands
+  none-owed : (t : Bool) → (t && ltb at i) ≡ false → owed t (i - at) n ≡ []
+  unfolding digitsOf
+  none-owed true e = let k : i - at ≡ 0 = omega (arith, ltb-false at i e) in ap (λ (w : ℕ). digitsOf w n) k
+  none-owed false e = refl
+
+  pub writing-done : (more && ltb at i) ≡ false → DigitsIs out₀ at end n₀ out i
+  writing-done t =
+      let d : digitsOf (end - at) n₀ ≡ h .done = h .is ∙ ap (λ (x : List ℕ). x ++ h .done) (none-owed more t) in
+      record { first = omega (arith, h .place, ap length d); from = h .from; is = h .stands ∙ ap (withText out₀ i) (sym d) }
+
+-- ---- the mark before them
 
 leads : (w : ℕ) → leading space w ≡ replicate w space
 unfolding leading
 leads zero = refl
-leads (suc w) = blanks w
+leads (suc w) = let e : w + 1 ≡ suc w = omega arith in replicate-append-replicate w 1 space ∙ ap (λ (n : ℕ). replicate n space) e
 
-leading-penned : (w n mark : ℕ) (after : List ℕ) → penned w (pen n mark false) after ≡ leading mark w ++ after
-unfolding penned leading
-leading-penned zero n mark after = refl
-leading-penned (suc w) n mark after =
-    leading-penned w n space (mark ∷ after) ∙ ap (λ (l : List ℕ). l ++ (mark ∷ after)) (leads w) ∙ sym (append-assoc (replicate w space) (mark ∷ []) after)
+module _ (out : List ℕ) (at w x : ℕ) (b : Blank out at w) (end : ℕ) (e : end ≡ at + w) (out′ : List ℕ) (r : ℕ) (d : DigitsIs out at end (magnitudeOf w x) out′ r) where
+  wide : end - at ≡ w
+  wide = omega arith
 
-either-penned : (t : Bool) (w n mark : ℕ) (xs ys after : List ℕ) → penned w (pen n mark true) after ≡ xs ++ after → penned w (pen n mark false) after ≡ ys ++ after → penned w (pen n mark t) after ≡ cond t xs ys ++ after
-either-penned true w n mark xs ys after a b = a
-either-penned false w n mark xs ys after a b = b
+  number : List ℕ
+  number = digitsOf w (magnitudeOf w x)
 
-column-penned : (w n mark : ℕ) (after : List ℕ) → penned w (pen n mark true) after ≡ column mark w n ++ after
-unfolding penned column
-column-penned zero n mark after = refl
-column-penned (suc w) n mark after =
-    let rest = (48 + n % 10) ∷ after in
-    either-penned (leb 10 n) w (n / 10) mark (column mark w (n / 10)) (leading mark w) rest (column-penned w (n / 10) mark rest) (leading-penned w (n / 10) mark rest)
-    ∙ sym (append-assoc (cond (leb 10 n) (column mark w (n / 10)) (leading mark w)) ((48 + n % 10) ∷ []) after)
+  number-is : out′ ≡ withText out r number
+  unfolding number
+  number-is = d .is ∙ ap (λ (n : ℕ). withText out r (digitsOf n (magnitudeOf w x))) wide
 
-cell-penned : (w x : ℕ) (after : List ℕ) → penned w (penOf w x) after ≡ cell w x ++ after
-unfolding cell
-cell-penned w x after = by (negative w x)
-  where
-    by : (t : Bool) → penned w (cond t (pen (2 ^ 64 - x) minus true) (pen x space true)) after ≡ column (cond t (pen (2 ^ 64 - x) minus true) (pen x space true) .mark) w (cond t (pen (2 ^ 64 - x) minus true) (pen x space true) .rest) ++ after
-    by true = column-penned w (2 ^ 64 - x) minus after
-    by false = column-penned w x space after
+  place : r + length number ≡ at + w
+  unfolding number
+  place = ap (λ (n : ℕ). r + length (digitsOf n (magnitudeOf w x))) (sym wide) ∙ d .first ∙ e
 
--- ---- the loop: from the end of the column to its start
+  before : w - length number ≡ r - at
+  before = omega (arith, place, d .from)
 
-pub record Writing (text₀ : List ℕ) (at w : ℕ) (p₀ : Pen) (text : List ℕ) (p : Pen) (i : ℕ) : Type 0 where
-  pub from : at ≤ i
-  pub to : i ≤ at + w
-  pub same : length text ≡ length text₀
-  pub front : take at text ≡ take at text₀
-  pub back : penned (i - at) p (drop i text) ≡ penned w p₀ (drop (at + w) text₀)
+  blanks : (k : ℕ) → k ≤ w → (t : List ℕ) → withText out (at + k) t ≡ withText out at (replicate k space ++ t)
+  blanks k l t = with-lead out at k t (replicate k space) (sym (take-take k w (drop at out) l) ∙ ap (take k) (b .blank) ∙ first k w l) (length-replicate k space)
+    where
+      first : (k w : ℕ) → k ≤ w → take k (replicate w space) ≡ replicate k space
+      first zero w l = refl
+      first (suc k) zero l = absurd (omega arith)
+      first (suc k) (suc w) l = ap (λ (xs : List ℕ). space ∷ xs) (first k w (omega arith))
 
-pub writing-start : (text : List ℕ) (at w i : ℕ) (p : Pen) → i ≡ at + w → Writing text at w p text p i
-writing-start text at w i p e =
-    let k : i - at ≡ w = omega arith in
-    record { from = omega arith; to = omega arith; same = refl; front = refl; back = rw (k, e) }
+  mark : ℕ
+  mark = cond (isNegative w x) minus space
 
-module _ (text₀ : List ℕ) (at w : ℕ) (p₀ : Pen) (text : List ℕ) (p : Pen) (i : ℕ) (h : Writing text₀ at w p₀ text p i) where
-  -- one place more to the left
-  pub writing-more : (g : ℕ) (q : Pen) → at < i → i ≤ length text → g ≡ glyphOf p → q ≡ nextOf p → Writing text₀ at w p₀ (set text (i - 1) g) q (i - 1)
-  unfolding penned
-  writing-more g q l m eg eq =
-      let f = h .from in
-      let t = h .to in
-      let k : i - at ≡ suc (i - 1 - at) = omega arith in
-      let j : suc (i - 1) ≡ i = omega arith in
-      let set-is : set text (i - 1) g ≡ take (i - 1) text ++ g ∷ drop i text = set-split text (i - 1) g (omega arith) ∙ ap (λ (n : ℕ). take (i - 1) text ++ g ∷ drop n text) j in
-      let drop-is : drop (i - 1) (set text (i - 1) g) ≡ g ∷ drop i text = ap (drop (i - 1)) set-is ∙ drop-at (take (i - 1) text) (g ∷ drop i text) (i - 1) (length-take-le (i - 1) text (omega arith)) in
-      record {
-        from = omega arith;
-        to = omega arith;
-        same = length-set text (i - 1) g ∙ h .same;
-        front = take-set-le at text (i - 1) g (omega arith) ∙ h .front;
-        back = rw (drop-is, eg, eq) (rw k at (h .back));
-      }
+  cell-is : cell w x ≡ leading mark (r - at) ++ number
+  unfolding cell column number mark
+  cell-is = ap (λ (n : ℕ). leading mark n ++ number) before
 
-  -- the column stands
-  pub writing-done : (x : ℕ) → p₀ ≡ penOf w x → i ≤ at → at + w ≤ length text₀ → take (at + w) text ≡ take at text₀ ++ cell w x
-  unfolding penned
-  writing-done x e l m =
-      let f = h .from in
-      let k : i - at ≡ 0 = omega arith in
-      let z : i ≡ at = omega arith in
-      let drop-is : drop at text ≡ cell w x ++ drop (at + w) text₀ = rw (k, z) at (h .back) ∙ ap (λ (q : Pen). penned w q (drop (at + w) text₀)) e ∙ cell-penned w x (drop (at + w) text₀) in
-      take-add at w text ∙ (λ n. h .front n ++ (ap (take w) drop-is ∙ take-at (cell w x) (drop (at + w) text₀) w (cell-length w x)) n)
+  put-is : (out″ : List ℕ) → out″ ≡ withText out at (leading mark (r - at) ++ number) → PutIs out at (cell w x) out″ end
+  put-is out″ i = record { next = e ∙ ap (λ (n : ℕ). at + n) (sym (cell-length w x)); is = i ∙ ap (withText out at) (sym cell-is) }
+
+  -- no mark, or no place for it
+  plain : (t : Bool) → (t && ltb at r) ≡ false → leading (cond t minus space) (r - at) ≡ replicate (r - at) space
+  unfolding leading
+  plain true i = let k : r - at ≡ 0 = omega (arith, ltb-false at r i) in ap (leading minus) k ∙ ap (λ (n : ℕ). replicate n space) (sym k)
+  plain false i = leads (r - at)
+
+  pub put-plain : (isNegative w x && ltb at r) ≡ false → PutIs out at (cell w x) out′ end
+  unfolding mark
+  put-plain i =
+      let k : r ≡ at + (r - at) = omega (arith, d .from) in
+      put-is out′ (
+      number-is ∙ ap (λ (n : ℕ). withText out n number) k ∙ blanks (r - at) (omega (arith, place)) number ∙ ap (λ (xs : List ℕ). withText out at (xs ++ number)) (sym (plain (isNegative w x) i)))
+
+  pub marked-from : (isNegative w x && ltb at r) ≡ true → at < r
+  marked-from i = ltb-true at r (both (isNegative w x) (ltb at r) i .1)
+
+  pub marked-in : (isNegative w x && ltb at r) ≡ true → r - 1 < length out′
+  marked-in i = let l = marked-from i in omega (arith, place, b .room, ap length number-is, with-length out r number (omega (arith, place, b .room)))
+
+  -- the minus sign before the digits
+  pub put-marked : (isNegative w x && ltb at r) ≡ true → PutIs out at (cell w x) (set out′ (r - 1) minus) end
+  unfolding mark leading
+  put-marked i =
+      let l = marked-from i in
+      let k = r - 1 - at in
+      let n : r - at ≡ suc k = omega arith in
+      let m : r ≡ at + k + 1 = omega arith in
+      let j : r - 1 ≡ at + k = omega arith in
+      let room = b .room in
+      let s : set out′ (r - 1) minus ≡ withText out (at + k) (minus ∷ number) =
+      ap (λ (xs : List ℕ). set xs (r - 1) minus) (number-is ∙ ap (λ (y : ℕ). withText out y number) m) ∙ ap (λ (y : ℕ). set (withText out (at + k + 1) number) y minus) j ∙ with-before out (at + k) number minus (omega (arith, place)) in
+      put-is (set out′ (r - 1) minus) (
+      s
+      ∙ blanks k (omega (arith, place)) (minus ∷ number)
+      ∙ ap (withText out at) (sym (append-assoc (replicate k space) (minus ∷ []) number))
+      ∙ (λ y. withText out at (leading (cond (sym (both (isNegative w x) (ltb at r) i .0) y) minus space) (sym n y) ++ number)))

@@ -1,3 +1,5 @@
--- The laws of columns and rows.
+-- Texts put at places, columns and rows of them.
+pub mod Texts
 pub mod Columns
 pub mod Rows
+pub mod Going

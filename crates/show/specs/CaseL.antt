@@ -1,23 +1,13 @@
 -- Case L of document 01: the text of its plan is the block that the document prints, byte by byte.
 -- Assumes nothing.
 use mathlib.Core.Path.{_≡_, refl}
-use mathlib.Core.List.{List, [], _∷_, _++_}
+use mathlib.Core.List.{List, [], _∷_}
 use Prim.Native.Nat.{ℕ}
-use Rattle.plan.specs.declared.types.Entry.{Entry}
 use Rattle.plan.specs.Check.{given, ends, requestOfRecord}
-use Rattle.plan.specs.Out.{Plan}
 use Rattle.plan.specs.Request.{Request}
 use Rattle.plan.specs.Run.{entryWords, rectangles, wordsFrom, endOf}
 use Rattle.plan.specs.Whole.{planOf}
-use Rattle.show.specs.Text.{leading, column, cell, row, widthsOf, entryText, endText}
-
-unfoldable pub entriesText : List Entry → List ℕ
-entriesText [] = []
-entriesText (e ∷ es) = entryText e ++ entriesText es
-
--- D "It prints each step's kind and numbers"
-unfoldable pub planText : Plan → List ℕ
-planText p = entriesText (p .entries) ++ endText (endOf p)
+use Rattle.show.specs.Text.{digitsOf, leading, column, cell, row, widthsOf, entryText, endText, entriesText, planText}
 
 -- D "Case L: copy, image and frame 64 by 8 units at 0, .."
 unfoldable pub caseL : Request
@@ -36,5 +26,5 @@ blockL =
     ∷ []
 
 pub case-L : planText (planOf caseL) ≡ blockL
-unfolding planText entriesText entryText endText widthsOf row cell column leading caseL endOf rectangles wordsFrom entryWords
+unfolding planText entriesText entryText endText widthsOf row cell column leading digitsOf caseL endOf rectangles wordsFrom entryWords
 case-L = refl

@@ -1,4 +1,7 @@
--- The text of a plan, what a line promises, and the text of document 01's case L.
+-- The text of a plan, what is written of it and what its pieces make, the plan of a case, and the text of document 01's case L.
 pub mod Text
 pub mod Lines
+pub mod Chunk
+pub mod Case
+pub mod Joined
 pub mod CaseL

@@ -1,33 +1,32 @@
--- What a line promises, and how long it is.
+-- What a column and a line promise of the bytes that they are written into.
 -- Assumes nothing.
 use mathlib.Core.Path.{_≡_}
 use mathlib.Core.List.{List, [], _∷_, _++_}
-use Prim.Native.Nat.{ℕ, _+_, _≤_}
-use lib.ListN.{length, take}
-use Rattle.plan.specs.declared.types.End.{End}
-use Rattle.show.specs.Text.{cell}
-use Rattle.show.specs.declared.line.Line.{Line}
-use Rattle.show.specs.declared.print.Printed.{Printed}
-use Rattle.show.specs.declared.print.Printed.the-variants as printed
+use Prim.Native.Nat.{ℕ, _+_, _-_, _≤_}
+use lib.ListN.{length, take, drop, replicate}
+use Rattle.show.specs.Text.{space, digitsOf}
 
--- a word is put after the first `at` bytes of a text
-pub record PutIs (text : List ℕ) (at w x : ℕ) (text′ : List ℕ) (r : ℕ) : Type 0 where
-  pub next : r ≡ at + w
-  pub is : take (at + w) text′ ≡ take at text ++ cell w x
-  pub same : length text′ ≡ length text
+-- bytes, with a text at a place of theirs
+unfoldable pub withText : List ℕ → (at : ℕ) → (text : List ℕ) → List ℕ
+withText out at text = take at out ++ (text ++ drop (at + length text) out)
+
+-- a text is put at a place, and r is the place after it
+pub record PutIs (out : List ℕ) (at : ℕ) (text out′ : List ℕ) (r : ℕ) : Type 0 where
+  pub next : r ≡ at + length text
+  pub is : out′ ≡ withText out at text
+
+-- blanks for a column
+pub record Blank (out : List ℕ) (at w : ℕ) : Type 0 where
+  pub room : at + w ≤ length out
+  pub blank : take w (drop at out) ≡ replicate w space
+
+-- a number's digits are put before a place, and r is where they begin
+pub record DigitsIs (out : List ℕ) (at end n : ℕ) (out′ : List ℕ) (r : ℕ) : Type 0 where
+  pub first : r + length (digitsOf (end - at) n) ≡ end
+  pub from : at ≤ r
+  pub is : out′ ≡ withText out r (digitsOf (end - at) n)
 
 -- the places of a row
-unfoldable pub total : List ℕ → ℕ
-total [] = 0
-total (w ∷ ws) = w + total ws
-
-pub record LineIs (text : List ℕ) (r : Line) : Type 0 where
-  pub is : take (r .length) (r .text) ≡ text
-  pub long : r .length ≡ length text
-  pub fits : r .length ≤ 128
-  pub whole : length (r .text) ≡ 128
-
--- the end that was printed is this one
-abbrev pub printedRight : End → Printed → Type 0
-printedRight e (printed.End x) = x ≡ e
-printedRight e printed.Failed = Unit {0}
+unfoldable pub totalOf : List ℕ → ℕ
+totalOf [] = 0
+totalOf (w ∷ ws) = w + totalOf ws

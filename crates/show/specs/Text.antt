@@ -1,16 +1,16 @@
 -- The text of a plan, by document 01: D "Columns are right-justified decimals, negative ones with a minus sign: kind 2 wide, addresses and length 21, the rest 8".
 -- Assumes nothing.
-use mathlib.Core.Bool.{Bool, true, false, cond, _&&_}
+use mathlib.Core.Bool.{Bool, cond, _&&_}
 use mathlib.Core.List.{List, [], _∷_, _++_}
 use Prim.Native.Nat.{ℕ, zero, suc, _+_, _-_, _/_, _%_, _^_}
 use lib.Dec.{ltb, leb}
-use lib.ListN.{replicate}
+use lib.ListN.{length, replicate}
 use Rattle.object.specs.Check.{verdictNumber}
 use Rattle.plan.specs.declared.types.Entry.{Entry}
 use Rattle.plan.specs.declared.types.Entry.the-variants as entry
 use Rattle.plan.specs.declared.types.End.{End}
-use Rattle.plan.specs.Run.{entryWords}
-use Rattle.show.specs.declared.column.Pen.{Pen}
+use Rattle.plan.specs.Out.{Plan}
+use Rattle.plan.specs.Run.{entryWords, endOf}
 
 -- the bytes of a blank, a minus sign and a line end
 abbrev pub space : ℕ
@@ -22,25 +22,29 @@ minus = 45
 abbrev pub newline : ℕ
 newline = 10
 
+-- a number's digits, the last w of them at the most
+unfoldable pub digitsOf : (w n : ℕ) → List ℕ
+digitsOf zero n = []
+digitsOf (suc w) n = cond (leb 10 n) (digitsOf w (n / 10)) [] ++ ((48 + n % 10) ∷ [])
+
 -- w places with no digit: blanks, and the mark last
 unfoldable pub leading : (mark w : ℕ) → List ℕ
 leading mark zero = []
 leading mark (suc w) = replicate w space ++ (mark ∷ [])
 
--- a number in w places: its last digit, and before it the others, or what leads
+-- a number in w places, right-justified
 unfoldable pub column : (mark w n : ℕ) → List ℕ
-column mark zero n = []
-column mark (suc w) n = cond (leb 10 n) (column mark w (n / 10)) (leading mark w) ++ ((48 + n % 10) ∷ [])
+column mark w n = leading mark (w - length (digitsOf w n)) ++ digitsOf w n
 
 -- a word in w places; addresses and lengths, 21 wide, are never negative
-abbrev pub negative : (w x : ℕ) → Bool
-negative w x = ltb w 21 && leb (2 ^ 63) x
+abbrev pub isNegative : (w x : ℕ) → Bool
+isNegative w x = ltb w 21 && leb (2 ^ 63) x
 
-abbrev pub penOf : (w x : ℕ) → Pen
-penOf w x = cond (negative w x) (record { rest = 2 ^ 64 - x; mark = minus; more = true }) (record { rest = x; mark = space; more = true })
+abbrev pub magnitudeOf : (w x : ℕ) → ℕ
+magnitudeOf w x = cond (isNegative w x) (2 ^ 64 - x) x
 
 unfoldable pub cell : (w x : ℕ) → List ℕ
-cell w x = column (penOf w x .mark) w (penOf w x .rest)
+cell w x = column (cond (isNegative w x) minus space) w (magnitudeOf w x)
 
 -- a row's words in columns of these widths, none where a width is 0
 unfoldable pub row : (widths words : List ℕ) → List ℕ
@@ -71,15 +75,10 @@ endWords e = 9 ∷ verdictNumber (e .verdict) ∷ e .entries ∷ e .rectangles �
 unfoldable pub endText : End → List ℕ
 endText e = line endWidths (endWords e)
 
--- ---- what the code keeps of a column that it writes from the right
+-- D "It prints each step's kind and numbers"
+unfoldable pub entriesText : List Entry → List ℕ
+entriesText [] = []
+entriesText (e ∷ es) = entryText e ++ entriesText es
 
-abbrev pub glyphOf : Pen → ℕ
-glyphOf p = cond (p .more) (48 + p .rest % 10) (p .mark)
-
-abbrev pub nextOf : Pen → Pen
-nextOf p = cond (p .more) (record { rest = p .rest / 10; mark = p .mark; more = leb 10 (p .rest) }) (record { rest = p .rest; mark = space; more = false })
-
--- the w places that a pen still writes, in front of what stands
-unfoldable pub penned : ℕ → Pen → List ℕ → List ℕ
-penned zero p after = after
-penned (suc w) p after = penned w (nextOf p) (glyphOf p ∷ after)
+unfoldable pub planText : Plan → List ℕ
+planText p = entriesText (p .entries) ++ endText (endOf p)

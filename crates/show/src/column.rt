@@ -1,36 +1,39 @@
-// One column: a number's digits from the right, then its mark, then blanks.
+// One column, over blanks: a number's digits from the right, and its sign.
 ghost use mathlib.Core.Path.{_≡_};
-ghost use Prim.Native.Nat.{_+_, _%_, _≤_};
-ghost use lib.ListN.{length};
-ghost use Rattle.show.specs.Lines.{PutIs};
-ghost use Rattle.show.specs.Text.{penOf, glyphOf, nextOf};
+ghost use Prim.Native.Nat.{_+_, _-_, _%_, _≤_};
+ghost use lib.ListN.{length, replicate};
+ghost use Rattle.show.specs.Text.{space, isNegative, magnitudeOf, cell};
+ghost use Rattle.show.specs.Lines.{withText, Blank, DigitsIs, PutIs};
 
 // Columns of this width hold addresses and lengths, which are never negative.
 const WIDE: u8 = 21;
 
-// What is still to be written of a column, to the left.
-pub struct Pen {
-    pub rest: u64,
-    pub mark: u8,
-    pub more: bool,
+// Blanks from one place to another: a line gets its blanks at once, so that a column writes nothing but its number.
+pub(crate) fn blank(out: &mut [u8], at: usize, end: usize)
+    requires { ⌜ (at ≤ end) × (end ≤ length (now out)) ⌝ }
+    ensures { λ _. ⌜ now (out .exit) ≡ withText (now (out .entry)) at (replicate (end - at) space) ⌝ }
+{
+    let mut i = at;
+    while i < end {
+        out[i] = b' ';
+        i = i + 1;
+    }
 }
 
 // In the other columns a word from 2^63 on stands for a negative number.
-fn pen_of(width: u8, x: u64) -> Pen
-    ensures { λ r. ⌜ r ≡ penOf width x ⌝ }
+fn is_negative(width: u8, x: u64) -> bool
+    ensures { λ r. ⌜ r ≡ isNegative width x ⌝ }
 {
-    if (width < WIDE) & (0x8000_0000_0000_0000 <= x) {
-        Pen {
-            rest: 0xffff_ffff_ffff_ffff - x + 1,
-            mark: b'-',
-            more: true,
-        }
+    (width < WIDE) & (0x8000_0000_0000_0000 <= x)
+}
+
+fn magnitude(width: u8, x: u64) -> u64
+    ensures { λ r. ⌜ r ≡ magnitudeOf width x ⌝ }
+{
+    if is_negative(width, x) {
+        0xffff_ffff_ffff_ffff - x + 1
     } else {
-        Pen {
-            rest: x,
-            mark: b' ',
-            more: true,
-        }
+        x
     }
 }
 
@@ -40,42 +43,32 @@ fn digit(n: u64) -> u8
     48 + (n % 10) as u8
 }
 
-fn glyph(p: Pen) -> u8
-    ensures { λ r. ⌜ r ≡ glyphOf p ⌝ }
+// A number's digits before a place, as many as there is room for; where the first stands.
+fn digits(out: &mut [u8], at: usize, end: usize, x: u64) -> usize
+    requires { ⌜ (at ≤ end) × (end ≤ length (now out)) ⌝ }
+    ensures { λ r. ⌜ DigitsIs (now (out .entry)) at end x (now (out .exit)) r ⌝ }
 {
-    if p.more { digit(p.rest) } else { p.mark }
-}
-
-fn next(p: Pen) -> Pen
-    ensures { λ r. ⌜ r ≡ nextOf p ⌝ }
-{
-    if p.more {
-        Pen {
-            rest: p.rest / 10,
-            mark: p.mark,
-            more: 10 <= p.rest,
-        }
-    } else {
-        Pen {
-            rest: p.rest,
-            mark: b' ',
-            more: false,
-        }
+    let mut n = x;
+    let mut more = true;
+    let mut i = end;
+    while more & (at < i) {
+        i = i - 1;
+        out[i] = digit(n);
+        more = 10 <= n;
+        n = n / 10;
     }
+    i
 }
 
-// A word in the next `width` places of a line.
-pub(crate) fn put(text: &mut [u8; 128], at: usize, width: u8, x: u64) -> usize
-    requires { ⌜ (at + width ≤ 127) × (length (now text) ≡ 128) ⌝ }
-    ensures { λ r. ⌜ PutIs (now (text .entry)) at width x (now (text .exit)) r ⌝ }
+// A word in `width` places that are blank; the place after them.
+pub(crate) fn put(out: &mut [u8], at: usize, width: u8, x: u64) -> usize
+    requires { ⌜ Blank (now out) at width ⌝ }
+    ensures { λ r. ⌜ PutIs (now (out .entry)) at (cell width x) (now (out .exit)) r ⌝ }
 {
     let end = at + width as usize;
-    let mut p = pen_of(width, x);
-    let mut i = end;
-    while at < i {
-        i = i - 1;
-        text[i] = glyph(p);
-        p = next(p);
+    let first = digits(&mut *out, at, end, magnitude(width, x));
+    if is_negative(width, x) & (at < first) {
+        out[first - 1] = b'-';
     }
     end
 }

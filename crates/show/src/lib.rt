@@ -1,12 +1,9 @@
-// The text of a plan: a line of right-justified columns for each entry, and one for the end.
+// The text of a plan: a line of right-justified columns for each entry, and one for the end, written into bytes that the caller lends.
+mod case;
 mod column;
 mod line;
-mod print;
+mod text;
 
-pub use line::Line;
-pub use line::end_line;
-pub use line::entry_line;
-pub use print::Printed;
-pub use print::print_case;
-pub use print::print_end;
-pub use print::print_plan;
+pub use case::case_planner;
+pub use text::Chunk;
+pub use text::next_text;

@@ -1,36 +1,49 @@
 // The lines of entries and ends.
 ghost use mathlib.Core.Path.{_≡_};
-ghost use Prim.Native.Nat.{_≤_};
+ghost use Prim.Native.Nat.{_+_, _≤_};
+ghost use lib.ListN.{length};
 ghost use Rattle.show.specs.Text.{line, widthsOf, entryText, endText};
-ghost use Rattle.show.specs.Lines.{LineIs, total};
+ghost use Rattle.show.specs.Lines.{PutIs, totalOf};
+use crate::column::blank;
 use crate::column::put;
 use object::number;
 use plan::End;
 use plan::Entry;
 use words::entry_words;
 
-// A text of `length` bytes, the line end among them.
-pub struct Line {
-    pub text: [u8; 128],
-    pub length: usize,
+fn wide(x: u8) -> usize
+    ensures { λ r. ⌜ (r ≡ x) × (r ≤ 255) ⌝ }
+{
+    x as usize
 }
 
-fn row(widths: [u8; 11], words: [u64; 11]) -> Line
-    requires { ⌜ total widths ≤ 127 ⌝ }
-    ensures { λ r. ⌜ LineIs (line widths words) r ⌝ }
+// The places of a row.
+fn total(widths: [u8; 11]) -> usize
+    ensures { λ r. ⌜ r ≡ totalOf widths ⌝ }
 {
-    let mut text = [0u8; 128];
-    let mut at: usize = 0;
+    let mut sum: usize = 0;
     let mut k: usize = 0;
     while k < 11 {
-        at = put(&mut text, at, widths[k], words[k]);
+        sum = sum + wide(widths[k]);
         k = k + 1;
     }
-    text[at] = b'\n';
-    Line {
-        text,
-        length: at + 1,
+    sum
+}
+
+// A line at a place; the place after it.
+fn row(out: &mut [u8], start: usize, widths: [u8; 11], words: [u64; 11]) -> usize
+    requires { ⌜ start + totalOf widths + 1 ≤ length (now out) ⌝ }
+    ensures { λ r. ⌜ PutIs (now (out .entry)) start (line widths words) (now (out .exit)) r ⌝ }
+{
+    blank(&mut *out, start, start + total(widths));
+    let mut at = start;
+    let mut k: usize = 0;
+    while k < 11 {
+        at = put(&mut *out, at, widths[k], words[k]);
+        k = k + 1;
     }
+    out[at] = b'\n';
+    at + 1
 }
 
 // The widths of an entry's columns, the kind's first.
@@ -46,14 +59,16 @@ fn widths_of(e: Entry) -> [u8; 11]
     }
 }
 
-pub fn entry_line(e: Entry) -> Line
-    ensures { λ r. ⌜ LineIs (entryText e) r ⌝ }
+pub(crate) fn entry_line(out: &mut [u8], at: usize, e: Entry) -> usize
+    requires { ⌜ at + 128 ≤ length (now out) ⌝ }
+    ensures { λ r. ⌜ PutIs (now (out .entry)) at (entryText e) (now (out .exit)) r ⌝ }
 {
-    row(widths_of(e), entry_words(e))
+    row(&mut *out, at, widths_of(e), entry_words(e))
 }
 
-pub fn end_line(e: End) -> Line
-    ensures { λ r. ⌜ LineIs (endText e) r ⌝ }
+pub(crate) fn end_line(out: &mut [u8], at: usize, e: End) -> usize
+    requires { ⌜ at + 128 ≤ length (now out) ⌝ }
+    ensures { λ r. ⌜ PutIs (now (out .entry)) at (endText e) (now (out .exit)) r ⌝ }
 {
     let v = e.verdict;
     let words = [
@@ -69,5 +84,5 @@ pub fn end_line(e: End) -> Line
         0,
         0,
     ];
-    row([2, 8, 8, 8, 8, 0, 0, 0, 0, 0, 0], words)
+    row(&mut *out, at, [2, 8, 8, 8, 8, 0, 0, 0, 0, 0, 0], words)
 }

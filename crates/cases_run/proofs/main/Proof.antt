@@ -1,14 +1,18 @@
 -- `cases_run::main` is safe and ends. The measure: the turns left. Assumes nothing.
+use mathlib.Core.Path.{_≡_, sym}
 use Prim.Native.Nat.{_≤_, _-_}
+use lib.ListN.{length}
+use lib.Seq.{length-take-le}
 use borrow.Author.Needs.{needs}
+use Rattle.show.specs.Joined.{call-within}
 use Rattle.cases_run.proofs.main.Statement.{statement}
 use Rattle.cases_run.proofs.main.Tie as tie
 
 abbrev Inv-loop : tie.InvT-loop
-Inv-loop fd turns₀ turns = turns ≤ 10
+Inv-loop fd out₀ turns₀ out turns = (turns ≤ 10) × (length out ≡ 65536)
 
 abbrev μ-loop : tie.MeasureT-loop
-μ-loop fd turns₀ turns = 10 - turns
+μ-loop fd out₀ turns₀ out turns = 10 - turns
 
 open-read-requires : tie.Need-open-read-requires Inv-loop μ-loop
 open-read-requires c κs = search needs
@@ -18,6 +22,9 @@ fail-requires c κs = search needs
 
 returns : tie.Need-returns Inv-loop μ-loop
 returns c = search needs
+
+large-buffer-requires : tie.Need-large-buffer-requires Inv-loop μ-loop
+large-buffer-requires c κs = search needs
 
 loop-holds : tie.Need-loop-holds Inv-loop μ-loop
 loop-holds c = search needs
@@ -31,14 +38,29 @@ slice-aggregate-read-full c = search needs
 read-full-requires : tie.Need-read-full-requires Inv-loop μ-loop
 read-full-requires c κs = search needs
 
-returns-2 : tie.Need-returns-2 Inv-loop μ-loop
-returns-2 c = search needs
+array-share-prefix-bytes : tie.Need-array-share-prefix-bytes Inv-loop μ-loop
+array-share-prefix-bytes c = search needs
 
-slice-aggregate-print-case : tie.Need-slice-aggregate-print-case Inv-loop μ-loop
-slice-aggregate-print-case c = search needs
+slice-aggregate-case-planner : tie.Need-slice-aggregate-case-planner Inv-loop μ-loop
+slice-aggregate-case-planner c = search needs
 
-print-case-requires : tie.Need-print-case-requires Inv-loop μ-loop
-print-case-requires c κs = search needs
+case-planner-requires : tie.Need-case-planner-requires Inv-loop μ-loop
+case-planner-requires c κs = search needs
+
+slice-aggregate-next-text : tie.Need-slice-aggregate-next-text Inv-loop μ-loop
+slice-aggregate-next-text c = search needs
+
+next-text-requires : tie.Need-next-text-requires Inv-loop μ-loop
+next-text-requires c κs = search needs
+
+array-share-prefix-out : tie.Need-array-share-prefix-out Inv-loop μ-loop
+array-share-prefix-out c = let t = c .before .next-text in call-within _ _ _ (t .result) (t .ensures) (search needs)
+
+slice-aggregate-write-all : tie.Need-slice-aggregate-write-all Inv-loop μ-loop
+slice-aggregate-write-all c = let t = c .before .before .next-text in sym (length-take-le _ _ (call-within _ _ _ (t .result) (t .ensures) (search needs)))
+
+write-all-requires : tie.Need-write-all-requires Inv-loop μ-loop
+write-all-requires c κs = search needs
 
 loop-less : tie.Need-loop-less Inv-loop μ-loop
 loop-less c = search needs
@@ -46,8 +68,8 @@ loop-less c = search needs
 loop-again : tie.Need-loop-again Inv-loop μ-loop
 loop-again c = search needs
 
-returns-3 : tie.Need-returns-3 Inv-loop μ-loop
-returns-3 c = search needs
+returns-2 : tie.Need-returns-2 Inv-loop μ-loop
+returns-2 c = search needs
 
 pub main-spec : {M : Type 1} → statement M
 main-spec =
@@ -58,13 +80,19 @@ main-spec =
     open-read-requires
     fail-requires
     returns
+    large-buffer-requires
     loop-holds
     add-turns
     slice-aggregate-read-full
     read-full-requires
-    returns-2
-    slice-aggregate-print-case
-    print-case-requires
+    array-share-prefix-bytes
+    slice-aggregate-case-planner
+    case-planner-requires
+    slice-aggregate-next-text
+    next-text-requires
+    array-share-prefix-out
+    slice-aggregate-write-all
+    write-all-requires
     loop-less
     loop-again
-    returns-3)
+    returns-2)

@@ -1,64 +1,24 @@
--- `request::stored::from_bytes` meets its contract, field by field. Assumes nothing.
-use mathlib.Core.Path.{_∙_}
-use lib.ListN.{take}
-use mir.Syntax.{w32}
-use mir.ValLaws.{toZ-ofZ}
-use Rattle.plan.specs.Check.{requestAt}
+-- `request::stored::from_bytes` meets its contract, by its test. Assumes nothing.
+use mathlib.Core.Path.{ap}
+use native.Mathlib.Omega.{arith}
+use lib.ListN.{length}
+use Rattle.request.specs.declared.types.Case.the-variants as case
+use Rattle.request.specs.Stored.{caseOf}
 use borrow.Author.Needs.{needs}
+use borrow.Author.Tests.{lt-ltb, le-ltb}
 use Rattle.request.proofs.stored.from_bytes.Statement.{statement}
 use Rattle.request.proofs.stored.from_bytes.Tie as tie
 
-edge-requires : tie.Need-edge-requires
-edge-requires c κs = search needs
-
-edge-requires-2 : tie.Need-edge-requires-2
-edge-requires-2 c κs = search needs
-
-edge-requires-3 : tie.Need-edge-requires-3
-edge-requires-3 c κs = search needs
-
-edge-requires-4 : tie.Need-edge-requires-4
-edge-requires-4 c κs = search needs
-
-opcode-requires : tie.Need-opcode-requires
-opcode-requires c κs = search needs
-
-mode-requires : tie.Need-mode-requires
-mode-requires c κs = search needs
-
-field-from-requires : tie.Need-field-from-requires
-field-from-requires c κs = search needs
+asked-requires : tie.Need-asked-requires
+asked-requires c κs = search needs
 
 returns : tie.Need-returns
-unfolding requestAt
-returns c =
-    let a = c .before .before .before .before .before .before .edge in
-    let b = c .before .before .before .before .before .edge2 in
-    let d = c .before .before .before .before .edge3 in
-    let e = c .before .before .before .edge4 in
-    λ n i.
-    record {
-      bytes = take n (c .before .before .before .before .before .before .before .before .args .s .now);
-      opcode = c .before .before .opcode .ensures i;
-      scissor = record {
-        ulx = (toZ-ofZ w32 (a .result) (record { sfits = a .ok }) ∙ a .ensures) i;
-        uly = (toZ-ofZ w32 (b .result) (record { sfits = b .ok }) ∙ b .ensures) i;
-        lrx = (toZ-ofZ w32 (d .result) (record { sfits = d .ok }) ∙ d .ensures) i;
-        lry = (toZ-ofZ w32 (e .result) (record { sfits = e .ok }) ∙ e .ensures) i;
-      };
-      mode = c .before .mode .ensures i;
-      address = c .field-from .ensures .is i;
-    }
+unfolding caseOf
+returns c = let t = c .if1 .taken in rw (lt-ltb (length (c .before .before .args .s .now)) 61 (omega arith))
+
+returns-2 : tie.Need-returns-2
+unfolding caseOf
+returns-2 c = let t = c .before .if1 .left in rw (le-ltb (length (c .before .before .before .args .s .now)) 61 (omega arith)) (ap case.Request (c .asked .ensures))
 
 pub from-bytes-spec : {M : Type 1} → statement M
-from-bytes-spec =
-    tie.close
-    (tie.spec
-    edge-requires
-    edge-requires-2
-    edge-requires-3
-    edge-requires-4
-    opcode-requires
-    mode-requires
-    field-from-requires
-    returns)
+from-bytes-spec = tie.close (tie.spec asked-requires returns returns-2)

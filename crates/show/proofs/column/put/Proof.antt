@@ -1,72 +1,69 @@
--- `show::column::put` meets its contract. The invariant: what the pen still writes, in front of what stands, is the column. Assumes nothing.
+-- `show::column::put` meets its contract: over the digits that stand the sign is put, if there is one and a place for it. Assumes nothing.
 use mathlib.Core.Path.{refl}
 use native.Mathlib.Omega.{arith}
 use borrow.Author.Needs.{needs}
-use Rattle.show.proofs.Columns.{Writing, writing-start, writing-more, writing-done}
+use Rattle.show.proofs.Columns.{marked-from, marked-in, put-plain, put-marked}
 use Rattle.show.proofs.column.put.Statement.{statement}
 use Rattle.show.proofs.column.put.Tie as tie
 
-abbrev Inv-loop : tie.InvT-loop
-Inv-loop text₀ at width x end p₀ i₀ text p i = Writing text₀ at width p₀ text p i
-
-abbrev μ-loop : tie.MeasureT-loop
-μ-loop text₀ at width x end p₀ i₀ text p i = i
-
-add-end : tie.Need-add-end Inv-loop μ-loop
+add-end : tie.Need-add-end
 add-end c = search needs
 
-pen-of-requires : tie.Need-pen-of-requires Inv-loop μ-loop
-pen-of-requires c κs = search needs
+magnitude-requires : tie.Need-magnitude-requires
+magnitude-requires c κs = search needs
 
-loop-holds : tie.Need-loop-holds Inv-loop μ-loop
-loop-holds c = let a = c .before .args in writing-start (a .text .now) (a .at) (a .width) _ _ refl
+digits-requires : tie.Need-digits-requires
+digits-requires c κs = search needs
 
-sub-i : tie.Need-sub-i Inv-loop μ-loop
-sub-i c = search needs
+is-negative-requires : tie.Need-is-negative-requires
+is-negative-requires c κs = search needs
 
-glyph-requires : tie.Need-glyph-requires Inv-loop μ-loop
-glyph-requires c κs = search needs
+sub-out : tie.Need-sub-out
+sub-out c =
+    let s = c .before .before .before .before .before .before .before .before in
+    let d = c .before .before .before .before in
+    let t = rw (c .before .is-negative .ensures) at (c .if1 .taken) in
+    let h = marked-from (s .args .out .now) (s .args .at) (s .args .width) (s .args .x) (s .pre) _ refl _ (d .digits .result) (rw (d .before .magnitude .ensures) at (d .digits .ensures)) t in
+    omega arith
 
-element-write-text : tie.Need-element-write-text Inv-loop μ-loop
-element-write-text c = let h = c .before .before .loop .inv in omega (arith, h .to)
+slice-write-out : tie.Need-slice-write-out
+slice-write-out c =
+    let s = c .before .before .before .before .before .before .before .before in
+    let d = c .before .before .before .before in
+    let t = rw (c .before .is-negative .ensures) at (c .if1 .taken) in
+    marked-in (s .args .out .now) (s .args .at) (s .args .width) (s .args .x) (s .pre) _ refl _ _ (rw (d .before .magnitude .ensures) at (d .digits .ensures)) t
 
-next-requires : tie.Need-next-requires Inv-loop μ-loop
-next-requires c κs = search needs
+same-length : tie.Need-same-length
+same-length c = search needs
 
-loop-less : tie.Need-loop-less Inv-loop μ-loop
-loop-less c = search needs
-
-loop-again : tie.Need-loop-again Inv-loop μ-loop
-loop-again c =
-    let l = c .before .before .before .loop in
-    let h = l .inv in
-    writing-more _ _ _ _ (l .text) (l .p) (l .i) h (c .before .glyph .result) (c .next .result) (c .before .before .loop-test .taken) (omega (arith, h .to, h .same, c .before .before .before .before .before .pre .0, c .before .before .before .before .before .pre .1)) (c .before .glyph .ensures) (c .next .ensures)
-
-returns : tie.Need-returns Inv-loop μ-loop
+returns : tie.Need-returns
 returns c =
-    let a = c .before .before .before .args in
-    let l = c .before .loop in
-    let h = c .before .before .before .pre in
-    let t = c .loop-test .left in
-    record {
-      next = refl;
-      is = writing-done (a .text .now) (a .at) (a .width) _ (l .text) (l .p) (l .i) (l .inv) (a .x) (c .before .before .pen-of .ensures) t (omega arith);
-      same = l .inv .same;
-    }
+    let s = c .before .before .before .before .before .before .before .before in
+    let d = c .before .before .before .before in
+    let t = rw (c .before .is-negative .ensures) at (c .if1 .taken) in
+    put-marked (s .args .out .now) (s .args .at) (s .args .width) (s .args .x) (s .pre) _ refl _ _ (rw (d .before .magnitude .ensures) at (d .digits .ensures)) t
+
+same-length-2 : tie.Need-same-length-2
+same-length-2 c = search needs
+
+returns-2 : tie.Need-returns-2
+returns-2 c =
+    let s = c .before .before .before .before .before .before .before .before in
+    let d = c .before .before .before .before in
+    let t = rw (c .before .is-negative .ensures) at (c .if1 .left) in
+    put-plain (s .args .out .now) (s .args .at) (s .args .width) (s .args .x) (s .pre) _ refl _ _ (rw (d .before .magnitude .ensures) at (d .digits .ensures)) t
 
 pub put-spec : {M : Type 1} → statement M
 put-spec =
     tie.close
     (tie.spec
-    Inv-loop
-    μ-loop
     add-end
-    pen-of-requires
-    loop-holds
-    sub-i
-    glyph-requires
-    element-write-text
-    next-requires
-    loop-less
-    loop-again
-    returns)
+    magnitude-requires
+    digits-requires
+    is-negative-requires
+    sub-out
+    slice-write-out
+    same-length
+    returns
+    same-length-2
+    returns-2)

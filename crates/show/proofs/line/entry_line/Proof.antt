@@ -1,4 +1,5 @@
 -- `show::line::entry_line` meets its contract: the columns of every kind fit a line. Assumes nothing.
+use native.Mathlib.Omega.{arith}
 use Rattle.show.specs.Text.{entryText}
 use Rattle.show.proofs.Rows.{widths-fit}
 use borrow.Author.Needs.{needs}
@@ -12,11 +13,14 @@ entry-words-requires : tie.Need-entry-words-requires
 entry-words-requires c κs = search needs
 
 row-requires : tie.Need-row-requires
-row-requires c κs = rw (c .before .widths-of .ensures) (widths-fit (c .before .before .args .e))
+row-requires c κs = let s = c .before .before .before .before in rw (c .before .widths-of .ensures) (omega (arith, s .pre, widths-fit (s .args .e)))
+
+same-length : tie.Need-same-length
+same-length c = search needs
 
 returns : tie.Need-returns
 unfolding entryText
-returns c = rw (← c .before .before .widths-of .ensures, ← c .before .entry-words .ensures) (c .row .ensures)
+returns c = rw (← c .before .before .before .before .widths-of .ensures, ← c .before .before .before .entry-words .ensures) (c .before .before .row .ensures)
 
 pub entry-line-spec : {M : Type 1} → statement M
-entry-line-spec = tie.close (tie.spec widths-of-requires entry-words-requires row-requires returns)
+entry-line-spec = tie.close (tie.spec widths-of-requires entry-words-requires row-requires same-length returns)

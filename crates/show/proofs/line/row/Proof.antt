@@ -1,20 +1,35 @@
--- `show::line::row` meets its contract. The invariant: the cells that are written and those to come make up the row. Assumes nothing.
-use mathlib.Core.Path.{refl}
-use Prim.Native.Nat.{_-_}
+-- `show::line::row` meets its contract. The invariant: the cells that are written, and blanks for those to come, stand where the row begins. Assumes nothing.
+use mathlib.Core.Path.{_∙_}
+use Prim.Native.Nat.{_+_, _-_, _≤_}
 use native.Mathlib.Omega.{arith}
+use lib.ListN.{length, length-set}
 use borrow.Author.Needs.{needs}
-use Rattle.show.proofs.Rows.{Filled, filled-start, filled-room, filled-more, filled-end, filled-line}
+use Rattle.show.specs.Lines.{totalOf}
+use Rattle.show.proofs.Rows.{blanks-are, blank-same, over-blanks, Filled, filled-start, filled-same, filled-blank, filled-more, filled-end, line-long, filled-line}
 use Rattle.show.proofs.line.row.Statement.{statement}
 use Rattle.show.proofs.line.row.Tie as tie
 
 abbrev Inv-loop : tie.InvT-loop
-Inv-loop widths words text₀ at₀ k₀ text at k = Filled widths words text at k
+Inv-loop out₀ start widths words at₀ k₀ out at k = Filled widths words out₀ start out at k
 
 abbrev μ-loop : tie.MeasureT-loop
-μ-loop widths words text₀ at₀ k₀ text at k = 11 - k
+μ-loop out₀ start widths words at₀ k₀ out at k = 11 - k
+
+total-requires : tie.Need-total-requires Inv-loop μ-loop
+total-requires c κs = search needs
+
+add-blank : tie.Need-add-blank Inv-loop μ-loop
+add-blank c = let s = c .before .before .before in record { fits = omega (arith, s .pre, c .total .ensures) }
+
+blank-requires : tie.Need-blank-requires Inv-loop μ-loop
+blank-requires c κs = let s = c .before .before .before in (omega arith, omega (arith, s .pre, c .total .ensures))
 
 loop-holds : tie.Need-loop-holds Inv-loop μ-loop
-loop-holds c = filled-start (c .args .t1) (c .args .t2) _ refl
+loop-holds c =
+    let b = c .before .before in
+    let s = b .before .before .before .before in
+    let e = blanks-are (s .args .t3) (s .args .out .now) (s .args .start) (b .before .total .result) _ (b .before .total .ensures) (b .blank .ensures) in
+    filled-start (s .args .t3) (s .args .t4) (s .args .out .now) (s .args .start) (s .pre) _ e
 
 array-read-put : tie.Need-array-read-put Inv-loop μ-loop
 array-read-put c = search needs
@@ -27,10 +42,15 @@ array-read-put-2 c = search needs
 
 put-requires : tie.Need-put-requires Inv-loop μ-loop
 put-requires c κs =
-    let s = c .before .before .before in
+    let b = c .before .before .before .before .before in
+    let s = b .before .before .before .before in
+    let ws = s .args .t3 in
+    let xs = s .args .t4 in
+    let e = blanks-are ws (s .args .out .now) (s .args .start) (b .before .total .result) _ (b .before .total .ensures) (b .blank .ensures) in
+    let m = blank-same ws xs (s .args .out .now) (s .args .start) (s .pre) _ e in
+    let room : s .args .start + totalOf ws + 1 ≤ length (b .blank .last .0) = omega (arith, s .pre) in
     let l = c .before .before .loop in
-    let r = filled-room (s .args .t1) (s .args .t2) (s .good .0 .1 .0 .1) (s .good .1 .0 .1 .0 .1) (l .text) (l .at) (l .k) (l .inv) (c .before .loop-test .taken) in
-    (omega (arith, s .pre), l .inv .same)
+    filled-blank ws xs (s .good .1 .1 .0 .1 .0 .1) (s .good .1 .1 .1 .0 .1 .0 .1) _ (s .args .start) room (l .out) (l .at) (l .k) (l .inv) (c .before .loop-test .taken)
 
 add-k : tie.Need-add-k Inv-loop μ-loop
 add-k c = search needs
@@ -40,29 +60,67 @@ loop-less c = search needs
 
 loop-again : tie.Need-loop-again Inv-loop μ-loop
 loop-again c =
-    let s = c .before .before .before .before in
-    let l = c .before .before .before .loop in
-    filled-more (s .args .t1) (s .args .t2) (s .good .0 .1 .0 .1) (s .good .1 .0 .1 .0 .1) (l .text) (l .at) (l .k) (l .inv) _ _ (c .before .before .loop-test .taken) (c .put .ensures)
+    let b = c .before .before .before .before .before .before .before .before in
+    let s = b .before .before .before .before in
+    let ws = s .args .t3 in
+    let xs = s .args .t4 in
+    let e = blanks-are ws (s .args .out .now) (s .args .start) (b .before .total .result) _ (b .before .total .ensures) (b .blank .ensures) in
+    let m = blank-same ws xs (s .args .out .now) (s .args .start) (s .pre) _ e in
+    let room : s .args .start + totalOf ws + 1 ≤ length (b .blank .last .0) = omega (arith, s .pre) in
+    let l = c .before .before .before .before .before .loop in
+    filled-more ws xs (s .good .1 .1 .0 .1 .0 .1) (s .good .1 .1 .1 .0 .1 .0 .1) _ (s .args .start) room (l .out) (l .at) (l .k) (l .inv) (c .before .before .before .before .loop-test .taken) _ _ (c .before .before .put .ensures)
 
-array-write-text : tie.Need-array-write-text Inv-loop μ-loop
-array-write-text c =
-    let s = c .before .before in
+slice-write-out : tie.Need-slice-write-out Inv-loop μ-loop
+slice-write-out c =
+    let b = c .before .before .before .before in
+    let s = b .before .before .before .before in
+    let ws = s .args .t3 in
+    let xs = s .args .t4 in
+    let e = blanks-are ws (s .args .out .now) (s .args .start) (b .before .total .result) _ (b .before .total .ensures) (b .blank .ensures) in
+    let m = blank-same ws xs (s .args .out .now) (s .args .start) (s .pre) _ e in
+    let room : s .args .start + totalOf ws + 1 ≤ length (b .blank .last .0) = omega (arith, s .pre) in
     let l = c .before .loop in
-    let e = filled-end (s .args .t1) (s .args .t2) (s .good .0 .1 .0 .1) (s .good .1 .0 .1 .0 .1) (l .text) (l .at) (l .k) (l .inv) (c .loop-test .left) in
-    omega (arith, s .pre)
+    let f = filled-end ws xs (s .good .1 .1 .0 .1 .0 .1) (s .good .1 .1 .1 .0 .1 .0 .1) _ (s .args .start) room (l .out) (l .at) (l .k) (l .inv) (c .loop-test .left) in
+    let g = filled-same ws xs (s .good .1 .1 .0 .1 .0 .1) (s .good .1 .1 .1 .0 .1 .0 .1) _ (s .args .start) room (l .out) (l .at) (l .k) (l .inv) in
+    omega arith
 
-add-t20 : tie.Need-add-t20 Inv-loop μ-loop
-add-t20 c =
-    let s = c .before .before in
+add-result : tie.Need-add-result Inv-loop μ-loop
+add-result c =
+    let b = c .before .before .before .before in
+    let s = b .before .before .before .before in
+    let ws = s .args .t3 in
+    let xs = s .args .t4 in
+    let e = blanks-are ws (s .args .out .now) (s .args .start) (b .before .total .result) _ (b .before .total .ensures) (b .blank .ensures) in
+    let m = blank-same ws xs (s .args .out .now) (s .args .start) (s .pre) _ e in
+    let room : s .args .start + totalOf ws + 1 ≤ length (b .blank .last .0) = omega (arith, s .pre) in
     let l = c .before .loop in
-    let e = filled-end (s .args .t1) (s .args .t2) (s .good .0 .1 .0 .1) (s .good .1 .0 .1 .0 .1) (l .text) (l .at) (l .k) (l .inv) (c .loop-test .left) in
+    let f = filled-end ws xs (s .good .1 .1 .0 .1 .0 .1) (s .good .1 .1 .1 .0 .1 .0 .1) _ (s .args .start) room (l .out) (l .at) (l .k) (l .inv) (c .loop-test .left) in
     record { fits = omega (arith, s .pre) }
+
+same-length : tie.Need-same-length Inv-loop μ-loop
+same-length c =
+    let b = c .before .before .before .before in
+    let s = b .before .before .before .before in
+    let ws = s .args .t3 in
+    let xs = s .args .t4 in
+    let e = blanks-are ws (s .args .out .now) (s .args .start) (b .before .total .result) _ (b .before .total .ensures) (b .blank .ensures) in
+    let m = blank-same ws xs (s .args .out .now) (s .args .start) (s .pre) _ e in
+    let room : s .args .start + totalOf ws + 1 ≤ length (b .blank .last .0) = omega (arith, s .pre) in
+    let l = c .before .loop in
+    simp length-set (filled-same ws xs (s .good .1 .1 .0 .1 .0 .1) (s .good .1 .1 .1 .0 .1 .0 .1) _ (s .args .start) room (l .out) (l .at) (l .k) (l .inv) ∙ m)
 
 returns : tie.Need-returns Inv-loop μ-loop
 returns c =
-    let s = c .before .before in
+    let b = c .before .before .before .before in
+    let s = b .before .before .before .before in
+    let ws = s .args .t3 in
+    let xs = s .args .t4 in
+    let e = blanks-are ws (s .args .out .now) (s .args .start) (b .before .total .result) _ (b .before .total .ensures) (b .blank .ensures) in
+    let m = blank-same ws xs (s .args .out .now) (s .args .start) (s .pre) _ e in
+    let room : s .args .start + totalOf ws + 1 ≤ length (b .blank .last .0) = omega (arith, s .pre) in
     let l = c .before .loop in
-    filled-line (s .args .t1) (s .args .t2) (s .good .0 .1 .0 .1) (s .good .1 .0 .1 .0 .1) (l .text) (l .at) (l .k) (l .inv) _ (c .loop-test .left) (s .pre) refl
+    let t = c .loop-test .left in
+    over-blanks ws xs (s .args .out .now) (s .args .start) (s .pre) _ e _ _ _ (line-long ws xs (s .good .1 .1 .0 .1 .0 .1) (s .good .1 .1 .1 .0 .1 .0 .1) _ (s .args .start) room (l .out) (l .at) (l .k) (l .inv) t) (filled-line ws xs (s .good .1 .1 .0 .1 .0 .1) (s .good .1 .1 .1 .0 .1 .0 .1) _ (s .args .start) room (l .out) (l .at) (l .k) (l .inv) t)
 
 pub row-spec : {M : Type 1} → statement M
 row-spec =
@@ -70,6 +128,9 @@ row-spec =
     (tie.spec
     Inv-loop
     μ-loop
+    total-requires
+    add-blank
+    blank-requires
     loop-holds
     array-read-put
     mul-put
@@ -78,6 +139,7 @@ row-spec =
     add-k
     loop-less
     loop-again
-    array-write-text
-    add-t20
+    slice-write-out
+    add-result
+    same-length
     returns)

@@ -1,0 +1,2 @@
+-- What reading promises.
+pub mod Input
