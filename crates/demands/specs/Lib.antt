@@ -5,3 +5,4 @@ pub mod Loads
 pub mod Early
 pub mod Small
 pub mod SmallPlans
+pub mod Columns

@@ -1,25 +1,24 @@
 -- The numbers of a plan's entries are small, and its entries few: what a host's column, or its own field, may count on. D is document 01, 'The plan entry'.
 -- Assumes nothing.
-use mathlib.Core.Path.{_≡_, refl, sym, ap, _∙_}
-use mathlib.Core.Bool.{Bool, true, false, cond, _||_}
+use mathlib.Core.Path.{_≡_, refl}
+use mathlib.Core.Bool.{Bool, true, false}
 use mathlib.Core.List.{List, [], _∷_, _++_}
-use Prim.Native.Nat.{ℕ, zero, suc, _+_, _-_, _*_, _/_, _%_, _^_, _≤_, _<_, max}
+use Prim.Native.Nat.{ℕ, zero, suc, _+_, _-_, _*_, _^_, _≤_, _<_}
 use native.Mathlib.Omega.{arith}
 use native.Mathlib.Nat.{mul-le-mul}
-use lib.Dec.{ltb, eqb}
-use lib.IntN.{ℤ, pos, negsuc, negℤ, _+ℤ_, _-ℤ_, _*ℤ_}
+use lib.Dec.{ltb}
+use lib.IntN.{ℤ, pos, negsuc, negℤ, _+ℤ_}
 use lib.ListN.{length, length-append}
-use lib.Signed.{ltZ, leZ, _≤ℤ_}
+use lib.Signed.{ltZ, _≤ℤ_}
 use mir.Syntax.{w16}
-use mir.Val.{toZ, Fits, SFits}
+use mir.Val.{SFits}
 use mir.ValLaws.{toZ-fits}
-use borrow.Author.Tests.{ltb-true, ltb-false}
-use Rattle.signed.specs.Diff.{up, zdiff, zparts, zarith}
-use Rattle.signed.specs.Floor.{modulo, modulo-lt, floorDiv}
+use borrow.Author.Tests.{ltb-true}
+use Rattle.signed.specs.Diff.{up, zarith}
+use Rattle.signed.specs.Floor.{modulo, modulo-lt}
 use Rattle.signed.specs.Cast.{u16, i16}
 use Rattle.object.specs.declared.types.Verdict.{Verdict}
 use Rattle.object.specs.declared.types.Verdict.the-variants as verdict
-use Rattle.tile.specs.declared.load.LoadRequest.{LoadRequest}
 use Rattle.tile.specs.declared.load.LoadRequest.the-variants as request
 use Rattle.tile.specs.Load.{wordsOf, rowsOf, strideOf, offsetOf, granted, pickRequest, requestOf}
 use Rattle.plan.specs.declared.types.Entry.{Entry}

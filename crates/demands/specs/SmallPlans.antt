@@ -1,16 +1,16 @@
 -- Every plan has few entries, all of small numbers: by the fuel of its walks, and by the ranges that its checks and its set-up leave.
 -- Assumes nothing.
-use mathlib.Core.Path.{_≡_, refl, sym, ap, _∙_}
+use mathlib.Core.Path.{_≡_, refl, ap}
 use mathlib.Core.Bool.{Bool, true, false, cond, _||_}
-use mathlib.Core.List.{List, [], _∷_, _++_}
-use Prim.Native.Nat.{ℕ, zero, suc, _+_, _-_, _*_, _/_, _%_, _^_, _≤_, _<_, max}
+use mathlib.Core.List.{List, [], _∷_}
+use Prim.Native.Nat.{ℕ, zero, suc, _+_, _-_, _*_, _/_, _%_, _^_, _≤_, _<_}
 use native.Mathlib.Omega.{arith}
-use native.Mathlib.Nat.{mul-le-mul, mod-lt}
+use native.Mathlib.Nat.{mul-le-mul}
 use lib.Dec.{ltb, eqb}
 use lib.IntN.{ℤ, pos, negℤ, _+ℤ_, _-ℤ_, _*ℤ_}
 use lib.ListN.{length}
-use lib.Signed.{ltZ, leZ, _≤ℤ_}
-use borrow.Author.Tests.{ltb-true, ltb-false}
+use lib.Signed.{ltZ, leZ}
+use borrow.Author.Tests.{ltb-true}
 use Rattle.signed.specs.Diff.{up, zdiff, zparts, zarith}
 use Rattle.signed.specs.Floor.{modulo, modulo-lt}
 use Rattle.signed.specs.Cast.{u16, i16}
@@ -24,7 +24,6 @@ use Rattle.object.specs.Layout.{Bytes, layout, valueOf, decode}
 use Rattle.object.specs.Range.{PassedCopy, PassedScaled}
 use Rattle.object.specs.Reads.{read-below}
 use Rattle.object.specs.Passed.{passed-copy, passed-scaled, checked-copy-is}
-use Rattle.plan.specs.declared.types.Entry.{Entry}
 use Rattle.plan.specs.declared.types.Entry.the-variants as entry
 use Rattle.plan.specs.declared.types.Copy.{Copy}
 use Rattle.plan.specs.declared.types.Strip.{Strip}
@@ -35,11 +34,11 @@ use Rattle.plan.specs.declared.types.Clip.{Clip}
 use Rattle.plan.specs.declared.types.First.{First}
 use Rattle.plan.specs.declared.types.Start.{Start}
 use Rattle.plan.specs.Request.{Request}
-use Rattle.plan.specs.Out.{Out, yield, emit, planOut}
+use Rattle.plan.specs.Out.{Out, planOut}
 use Rattle.plan.specs.Out.Out.{go, stop}
 use Rattle.plan.specs.Whole.{copyOut, scaledOut, checkedOut, planWith, planOf}
 use Rattle.plan.specs.Copy.{field, bound, stripEntries, strip, stripOf, columns, rows, stripRow, stripHeight, copyOf, copyEmpty, copyPlan}
-use Rattle.plan.specs.Scaled.{sizeOf, fieldOf, lrsOf, lrtOf, tile7, loadPart, load1cycTile, back, fromTop, splitRow, upToEnd, advance, load1cyc, leftAfter, linesOf, rowsOf, rowOf, rectOf, afterDraw, nextPass, drawOf, drawPass, idlePass, pass, passes, firstPass, scaledPlan, clipOf, scaledEmpty, startOf, scaledOf, slicesBad, firstOf}
+use Rattle.plan.specs.Scaled.{sizeOf, fieldOf, lrsOf, lrtOf, tile7, loadPart, load1cycTile, back, fromTop, splitRow, upToEnd, advance, load1cyc, leftAfter, linesOf, rowsOf, rectOf, drawOf, drawPass, idlePass, pass, passes, firstPass, scaledPlan, clipOf, scaledEmpty, startOf, scaledOf, slicesBad, firstOf}
 use Rattle.plan.specs.Sound.{SoundCopy, SoundScaled}
 use Rattle.copy.specs.Frame.{copy-sound}
 use Rattle.copy.specs.Strip.{Bounds, Rows, strip-bounds, height-in}

@@ -1,9 +1,9 @@
 -- Demand 2 over any list of steps: n steps from a fresh planner answer the plan's first n entries and then its end for ever, and the bank is the fold over the entries given.
 -- A list of steps is any chain of results that meet `step`'s promise; so whatever a planner keeps in its private fields, this holds of it.
 -- Assumes nothing.
-use mathlib.Core.Path.{_≡_, refl, sym, ap, _∙_}
+use mathlib.Core.Path.{_≡_, refl, ap, _∙_}
 use mathlib.Core.List.{List, [], _∷_}
-use Prim.Native.Nat.{ℕ, suc}
+use Prim.Native.Nat.{ℕ}
 use lib.ListN.{length}
 use Rattle.object.specs.declared.types.Scissor.{Scissor}
 use Rattle.tile.specs.declared.bank.Bank.{Bank}
@@ -13,7 +13,7 @@ use Rattle.plan.specs.declared.types.Answer.{Answer}
 use Rattle.plan.specs.declared.types.Answer.the-variants as answer
 use Rattle.plan.specs.Whole.{planOf}
 use Rattle.plan.specs.Run.{endOf, bankStep, bankAfter}
-use Rattle.plan.specs.Steps.{Coming, comingOf, nextOf, answerOf, bankNext, answers, bankTo}
+use Rattle.plan.specs.Steps.{Coming, nextOf, answerOf, bankNext, answers, bankTo}
 use Rattle.planner.specs.declared.types.Planner.{Planner}
 use Rattle.planner.specs.declared.types.Step.{Step}
 use Rattle.planner.specs.declared.types.Stepped.{Stepped}
