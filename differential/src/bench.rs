@@ -1,6 +1,7 @@
 //! The proved planner and the original Rust side by side on the same records.
 //!
 //! Usage: bench [ROUNDS]
+//!        bench --guard
 //!
 //! The Rust is the published text over shims that only store each call's entry, built for release.
 //! Both write eleven words an entry into a buffer that has been written before. A round runs all
@@ -175,6 +176,73 @@ fn assert_same(group: &Group, proved: &mut Proved, original: &mut Original) {
     }
 }
 
+/// The best times of two ways through a group's records, and the entries of all its plans.
+struct Measured {
+    first: f64,
+    second: f64,
+    plans: f64,
+    entries: f64,
+}
+
+impl Measured {
+    /// Above 1: the first is faster.
+    fn ratio(&self) -> f64 {
+        self.second / self.first
+    }
+}
+
+fn measured(
+    group: &Group,
+    rounds: usize,
+    mut first: impl FnMut(&Record) -> usize,
+    mut second: impl FnMut(&Record) -> usize,
+) -> Measured {
+    let (mut best_first, mut best_second, mut entries) = (Duration::MAX, Duration::MAX, 0);
+    for _ in 0..rounds {
+        let (time, given) = timed(group, &mut first);
+        best_first = best_first.min(time);
+        best_second = best_second.min(timed(group, &mut second).0);
+        entries = given;
+    }
+    Measured {
+        first: best_first.as_secs_f64(),
+        second: best_second.as_secs_f64(),
+        plans: (group.times * group.records.len()) as f64,
+        entries: entries as f64,
+    }
+}
+
+fn beside(group: &Group, rounds: usize, proved: &mut Proved, original: &mut Original) -> Measured {
+    let rust = |record: &Record| original.run(record);
+    measured(group, rounds, |record| proved.run(record), rust)
+}
+
+/// Plans and entries a second of the proved run and of the Rust.
+fn print_runs(groups: &[Group], rounds: usize, proved: &mut Proved, original: &mut Original) {
+    println!(
+        "{:<25}{:>9}{:>13}{:>13}{:>13}{:>13}{:>7}",
+        "", "entries", "plans/s", "entries/s", "plans/s", "entries/s", ""
+    );
+    println!(
+        "{:<25}{:>9}{:>26}{:>26}{:>7}",
+        "", "a plan", "proved", "Rust", "ratio"
+    );
+    for group in groups {
+        assert_same(group, proved, original);
+        let m = beside(group, rounds, proved, original);
+        println!(
+            "{:<25}{:>9.1}{:>13.0}{:>13.0}{:>13.0}{:>13.0}{:>7.2}",
+            group.name,
+            m.entries / m.plans,
+            m.plans / m.first,
+            m.entries / m.first,
+            m.plans / m.second,
+            m.entries / m.second,
+            m.ratio()
+        );
+    }
+}
+
 /// Plans a second of `bg_count` and of `bg_run`, for typical, random and the largest plans.
 fn print_counts(groups: &[Group], rounds: usize, proved: &mut Proved) {
     println!(
@@ -187,30 +255,46 @@ fn print_counts(groups: &[Group], rounds: usize, proved: &mut Proved) {
         for record in &group.records {
             assert_eq!(count(record), proved.run(record));
         }
-        let (mut best_count, mut best_run, mut entries) = (Duration::MAX, Duration::MAX, 0);
-        for _ in 0..rounds {
-            let (time, given) = timed(group, count);
-            best_count = best_count.min(time);
-            best_run = best_run.min(timed(group, |record| proved.run(record)).0);
-            entries = given;
-        }
-        let plans = (group.times * group.records.len()) as f64;
-        let (a, b) = (best_count.as_secs_f64(), best_run.as_secs_f64());
+        let m = measured(group, rounds, count, |record| proved.run(record));
         println!(
             "{:<25}{:>9.1}{:>13.0}{:>13.0}{:>7.2}",
             group.name,
-            entries as f64 / plans,
-            plans / a,
-            plans / b,
-            b / a
+            m.entries / m.plans,
+            m.plans / m.first,
+            m.plans / m.second,
+            m.ratio()
         );
     }
 }
 
+/// A group that stays below this in every try is no noise: some layouts of the planner are seven times slower.
+const LEAST_RATIO: f64 = 0.5;
+const TRIES: usize = 3;
+const GUARD_ROUNDS: usize = 3;
+
+/// Whether every group reaches the least ratio in one of its tries.
+fn guarded(groups: &[Group], proved: &mut Proved, original: &mut Original) -> bool {
+    let mut all = true;
+    for group in groups {
+        let mut ratios = Vec::new();
+        while ratios.len() < TRIES && ratios.iter().all(|r| *r < LEAST_RATIO) {
+            ratios.push(beside(group, GUARD_ROUNDS, proved, original).ratio());
+        }
+        let reached = ratios.iter().any(|r| *r >= LEAST_RATIO);
+        let text: Vec<String> = ratios.iter().map(|r| format!("{r:.2}")).collect();
+        println!(
+            "{:<25}{}{}",
+            group.name,
+            text.join(", "),
+            if reached { "" } else { ": too slow" }
+        );
+        all &= reached;
+    }
+    all
+}
+
 fn main() {
-    let rounds: usize = std::env::args()
-        .nth(1)
-        .map_or(9, |n| n.parse().expect("rounds"));
+    let argument = std::env::args().nth(1);
     let groups = groups();
     let words = 5_232_646 * 11;
     let mut original = Original::new(words);
@@ -218,35 +302,14 @@ fn main() {
         bank: [0; BANK_WORDS],
         words: vec![1; words],
     };
-    println!(
-        "{:<25}{:>9}{:>13}{:>13}{:>13}{:>13}{:>7}",
-        "", "entries", "plans/s", "entries/s", "plans/s", "entries/s", ""
-    );
-    println!(
-        "{:<25}{:>9}{:>26}{:>26}{:>7}",
-        "", "a plan", "proved", "Rust", "ratio"
-    );
-    for group in &groups {
-        assert_same(group, &mut proved, &mut original);
-        let (mut best_proved, mut best_rust, mut entries) = (Duration::MAX, Duration::MAX, 0);
-        for _ in 0..rounds {
-            let (time, count) = timed(group, |record| proved.run(record));
-            best_proved = best_proved.min(time);
-            best_rust = best_rust.min(timed(group, |record| original.run(record)).0);
-            entries = count;
+    if argument.as_deref() == Some("--guard") {
+        if !guarded(&groups, &mut proved, &mut original) {
+            println!("a group stays below {LEAST_RATIO} of the Rust's speed in {TRIES} tries");
+            std::process::exit(1);
         }
-        let plans = (group.times * group.records.len()) as f64;
-        let (a, b) = (best_proved.as_secs_f64(), best_rust.as_secs_f64());
-        println!(
-            "{:<25}{:>9.1}{:>13.0}{:>13.0}{:>13.0}{:>13.0}{:>7.2}",
-            group.name,
-            entries as f64 / plans,
-            plans / a,
-            entries as f64 / a,
-            plans / b,
-            entries as f64 / b,
-            b / a
-        );
+        return;
     }
+    let rounds = argument.map_or(9, |n| n.parse().expect("rounds"));
+    print_runs(&groups, rounds, &mut proved, &mut original);
     print_counts(&groups, rounds, &mut proved);
 }

@@ -155,6 +155,11 @@ impl Plan {
         }
     }
 
+    /// The load in hand is refused.
+    pub fn refused(&mut self) {
+        self.refused_load = true;
+    }
+
     pub fn rectangle(&mut self, r: &TexRect, bank: &Bank) {
         if self.push(entry::rectangle(r, self.notes.image_row), bank) {
             self.rectangles += 1;
