@@ -1,4 +1,5 @@
-// Prints the plan of the case on standard input. It only reads, calls and writes; what the system's calls read and write no contract can say.
+// Prints the plan of the case on standard input. It only reads, calls and writes: the planner of any bytes is `case_planner`, its text `next_text`.
+// What the system's calls read and write no contract can say; tools/check-bgplan runs them.
 ghost use Rattle.planner.specs.Coming.{Sound};
 ghost use Rattle.bgplan.specs.Input.{InputIs};
 use libc::STDIN_FILENO;
@@ -11,7 +12,7 @@ enum Input {
     Failed,
 }
 
-// Bytes of standard input until they are all there or it ends.
+// Bytes of standard input until they are all there or it ends. `io::read_full` would take a read that fails for the end.
 fn read(bytes: &mut [u8]) -> Input
     ensures { λ r. ⌜ InputIs (now (bytes .exit)) r ⌝ }
 {
@@ -31,7 +32,7 @@ fn read(bytes: &mut [u8]) -> Input
     Input::Bytes(n)
 }
 
-// The text of all that a planner has to come, in large pieces.
+// The text of all that a planner has to come, in large pieces, which joined are the plan's text. The one place where it goes out.
 fn print(start: Planner)
     requires { ⌜ Sound start ⌝ }
 {

@@ -11,6 +11,7 @@ use plan::End;
 use plan::Entry;
 use words::entry_words;
 
+// By a call no proof is owed that an element of an array fits.
 fn wide(x: u8) -> usize
     ensures { λ r. ⌜ (r ≡ x) × (r ≤ 255) ⌝ }
 {
