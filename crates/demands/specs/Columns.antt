@@ -9,7 +9,7 @@ use native.Mathlib.Nat.{mul-le-mul, mod-eq-of-lt}
 use lib.Dec.{ltb, leb, eqb}
 use lib.IntN.{ℤ, pos, negsuc}
 use lib.ListN.{length, length-append}
-use borrow.Author.Tests.{lt-leb, le-leb, leb-true, leb-false}
+use borrow.Author.Tests.{lt-leb, le-leb, leb-true}
 use Rattle.signed.specs.Diff.{zarith}
 use Rattle.signed.specs.Cast.{word}
 use Rattle.object.specs.declared.types.Verdict.{Verdict}
@@ -21,17 +21,13 @@ use Rattle.plan.specs.Request.{Request}
 use Rattle.plan.specs.Run.{rectangles, wordsFrom, entryWords, endOf}
 use Rattle.plan.specs.Whole.{planOf}
 use Rattle.show.specs.Text.{digitsOf, isNegative, magnitudeOf, widthsOf, endWidths, endWords}
+use Rattle.show.specs.Decimal.{saidAfter, digits-say}
 use Rattle.demands.specs.Small.{Signed16, Small, AllSmall}
 use Rattle.demands.specs.SmallPlans.{Asked, plan-small}
 
--- the number that digits after a number give
-unfoldable pub decimal : ℕ → List ℕ → ℕ
-decimal n [] = n
-decimal n (d ∷ ds) = decimal (n * 10 + (d - 48)) ds
-
 -- a word in a column of w places: no digit of it is lost, nor its sign
 pub record Shows (w x : ℕ) : Type 0 where
-  pub digits : decimal 0 (digitsOf w (magnitudeOf w x)) ≡ magnitudeOf w x
+  pub digits : saidAfter 0 (digitsOf w (magnitudeOf w x)) ≡ magnitudeOf w x
   pub sign : isNegative w x ≡ true → length (digitsOf w (magnitudeOf w x)) < w
 
 -- the same of each word of a row
@@ -45,20 +41,6 @@ AllShow [] = Unit {0}
 AllShow (e ∷ es) = RowShows (widthsOf e) (entryWords e) × AllShow es
 
 -- ---- digits
-
-decimal-append : (n : ℕ) (ds : List ℕ) (d : ℕ) → decimal n (ds ++ d ∷ []) ≡ decimal n ds * 10 + (d - 48)
-unfolding decimal
-decimal-append n [] d = refl
-decimal-append n (c ∷ ds) d = decimal-append (n * 10 + (c - 48)) ds d
-
-digits-back : (w n : ℕ) → n < 10 ^ w → decimal 0 (digitsOf w n) ≡ n
-unfolding decimal digitsOf
-digits-back zero n h = omega arith
-digits-back (suc w) n h = decimal-append 0 (cond (leb 10 n) (digitsOf w (n / 10)) []) (48 + n % 10) ∙ by (leb 10 n) refl (digits-back w (n / 10) (omega arith))
-  where
-    by : (t : Bool) → leb 10 n ≡ t → decimal 0 (digitsOf w (n / 10)) ≡ n / 10 → decimal 0 (cond t (digitsOf w (n / 10)) []) * 10 + (48 + n % 10 - 48) ≡ n
-    by true e r = omega arith
-    by false e r = let l = leb-false 10 n e in omega arith
 
 -- no more digits than places that hold the number
 digits-few : (v w n : ℕ) → n < 10 ^ v → 1 ≤ v → length (digitsOf w n) ≤ v
@@ -85,17 +67,17 @@ and-false false t e = refl
 plainly : (w x : ℕ) → x < 2 ^ 63 → x < 10 ^ w → Shows w x
 plainly w x h k =
     let e : isNegative w x ≡ false = and-false (ltb w 21) (leb (2 ^ 63) x) (lt-leb (2 ^ 63) x h) in
-    record { digits = rw e (digits-back w x k); sign = λ f. absurd (true≢false (sym f ∙ e)) }
+    record { digits = rw e (digits-say w x k); sign = λ f. absurd (true≢false (sym f ∙ e)) }
 
 -- an address or a length
 widely : (x : ℕ) → x < 2 ^ 64 → Shows 21 x
-widely x h = record { digits = digits-back 21 x (omega arith); sign = λ e. absurd (true≢false (sym e)) }
+widely x h = record { digits = digits-say 21 x (omega arith); sign = λ e. absurd (true≢false (sym e)) }
 
 -- a word that stands for a number below 0 of at most seven digits
 negatively : (x : ℕ) → 2 ^ 63 ≤ x → 2 ^ 64 - x < 10 ^ 7 → Shows 8 x
 negatively x h k =
     let e : leb (2 ^ 63) x ≡ true = le-leb (2 ^ 63) x h in
-    record { digits = rw e (digits-back 8 (2 ^ 64 - x) (omega arith)); sign = λ _. rw e (omega (arith, digits-few 7 8 (2 ^ 64 - x) k (omega arith))) }
+    record { digits = rw e (digits-say 8 (2 ^ 64 - x) (omega arith)); sign = λ _. rw e (omega (arith, digits-few 7 8 (2 ^ 64 - x) k (omega arith))) }
 
 -- a number of 16 bits with a sign, as a word
 signed-shows : (z : ℤ) → Signed16 z → Shows 8 (word z)
