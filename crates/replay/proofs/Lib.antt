@@ -1,2 +1,4 @@
 -- The laws of a run's outcome.
+pub mod Banks
 pub mod Outcomes
+pub mod Stepping

@@ -1,13 +1,15 @@
 // The two files: a bank of 136 words, and records of 64 bytes.
 ghost use mathlib.Core.Path.{_≡_};
-ghost use Prim.Native.Nat.{min};
+ghost use Prim.Native.Nat.{_%_, min};
 ghost use lib.ListN.{length};
 ghost use Rattle.object.specs.Layout.{Held, read};
 ghost use Rattle.plan.specs.Check.{requestAt};
 ghost use Rattle.plan.specs.Whole.{planOf};
-ghost use Rattle.replay.specs.Outcome.{wordsIn, outcomeOf};
-use crate::outcome::Outcome;
-use crate::outcome::run_into;
+ghost use Rattle.words.specs.Host.{bankFrom};
+ghost use Rattle.replay.specs.Outcome.{wordsIn};
+ghost use Rattle.replay.specs.Steps.{replayedOf};
+use crate::record::Replayed;
+use crate::record::run_and_step;
 use object::field_from;
 
 // A bank's words, eight bytes each.
@@ -40,15 +42,29 @@ fn buffer() -> [u64; 2816]
     [0; 2816]
 }
 
-// A case, how many of the object's bytes the planner gets, and the words of its buffer.
-pub(crate) fn record_outcome(bytes: &[u8], bank: [u64; 136]) -> Outcome
+// Room for every chunk.
+fn chunk() -> [u64; 121]
+    ensures { λ r. ⌜ 121 ≡ length r ⌝ }
+{
+    [0; 121]
+}
+
+// A case, how many of the object's bytes the planner gets, and the words of its buffer; the chunk has these modulo 121.
+pub(crate) fn record_replayed(bytes: &[u8], stored: [u64; 136]) -> Replayed
     requires { ⌜ length (now bytes) ≡ 64 ⌝ }
-    ensures { λ r. ⌜ r ≡ outcomeOf (planOf (requestAt (min 40 (read (now (bytes .entry)) 61 1)) (now (bytes .entry)))) (min 2816 (read (now (bytes .entry)) 62 2)) bank ⌝ }
+    ensures { λ r. ⌜ r ≡ replayedOf (planOf (requestAt (min 40 (read (now (bytes .entry)) 61 1)) (now (bytes .entry)))) (min 2816 (read (now (bytes .entry)) 62 2)) (min 2816 (read (now (bytes .entry)) 62 2) % 121) (bankFrom stored) ⌝ }
 {
     let count = at_most(bytes, 61, 1, 40);
     let room = at_most(bytes, 62, 2, 2816);
+    let short = room % 121;
     let q = request::from_bytes(bytes);
     let mut plan = buffer();
-    let mut words = bank;
-    run_into(&bytes[..count], q, &mut words, &mut plan[..room])
+    let mut part = chunk();
+    run_and_step(
+        &bytes[..count],
+        q,
+        stored,
+        &mut plan[..room],
+        &mut part[..short],
+    )
 }
