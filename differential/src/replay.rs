@@ -2,11 +2,12 @@
 //!
 //! A record of the list has 64 bytes: the 61 that `bgplan` reads, then how many of the object's
 //! bytes the planner gets (1 byte) and how many words the plan buffer has (2 bytes, big-endian).
-//! Every run starts from the bank of seed 1, which the file `bank` holds as 136 big-endian words.
+//! Every run and every list of steps starts from the bank of seed 1, which the file `bank` holds as
+//! 136 big-endian words.
 
 use crate::coverage::Sample;
 use crate::generate::{generate, Mode};
-use crate::plan::{hash_bank, Sink};
+use crate::plan::{hash_bank, End, Sink};
 use crate::random::Random;
 use crate::record::{initial_bank, tile_fields, Record, OBJECT_BYTES, RECORD_BYTES};
 use crate::run::{run, Answer, Settings};
@@ -17,6 +18,10 @@ const ITEM_BYTES: usize = 64;
 const ROOM: u16 = 2_816;
 /// Only plans of so few entries are replayed into short buffers too.
 const SHORT: u64 = 12;
+/// A record's chunk has the words of its buffer modulo this.
+const CHUNK: u16 = 121;
+/// The steps that answer the end: the first, and three beyond it.
+const ENDS: usize = 4;
 
 #[derive(Clone, Copy)]
 struct Item {
@@ -26,7 +31,7 @@ struct Item {
 }
 
 impl Item {
-    fn whole(record: Record) -> Item {
+    fn roomy(record: Record) -> Item {
         Item {
             record,
             object_bytes: OBJECT_BYTES as u8,
@@ -50,14 +55,29 @@ impl Item {
         }
     }
 
-    fn answer(&self) -> Answer {
+    fn answer(&self, capacity: u64) -> Answer {
         let settings = Settings {
             bank: initial_bank(Some(1)),
             object_bytes: self.object_bytes.into(),
-            capacity: self.room.into(),
+            capacity,
             span_check: false,
         };
         run(&self.record, &settings, Sink::Nothing)
+    }
+
+    /// A run into the record's buffer.
+    fn ran(&self) -> Answer {
+        self.answer(self.room.into())
+    }
+
+    /// The whole plan, as steps give it.
+    fn whole(&self) -> Answer {
+        self.answer(u64::MAX)
+    }
+
+    /// Whether the plan is longer than the chunk.
+    fn cut(&self, whole: &Answer) -> bool {
+        u64::from(self.room % CHUNK / 11) < whole.end.entries
     }
 }
 
@@ -100,7 +120,7 @@ fn sample() -> Vec<Record> {
 
 /// A plan into a buffer that just holds it, lacks a word, holds half of it, has no words.
 fn short(item: Item, items: &mut Vec<Item>) {
-    let entries = item.answer().end.entries;
+    let entries = item.whole().end.entries;
     if entries > SHORT {
         return;
     }
@@ -119,9 +139,9 @@ fn short(item: Item, items: &mut Vec<Item>) {
 fn list() -> Vec<Item> {
     let named = cases::all().into_iter().map(|case| Item {
         object_bytes: case.object_bytes as u8,
-        ..Item::whole(case.record)
+        ..Item::roomy(case.record)
     });
-    let whole = sample().into_iter().chain(edges::all()).map(Item::whole);
+    let whole = sample().into_iter().chain(edges::all()).map(Item::roomy);
     let mut items: Vec<Item> = named.chain(whole).collect();
     for item in items.clone() {
         short(item, &mut items);
@@ -129,22 +149,42 @@ fn list() -> Vec<Item> {
     items
 }
 
-/// What the Rust answers: the end's numbers, and the hashes of the entries and of the bank.
-fn answers(items: &[Item]) -> String {
-    let line = |item: &Item| {
-        let Answer {
-            end, bank, plan, ..
-        } = item.answer();
-        format!(
-            "{} {} {} {} {:016x} {:016x}\n",
-            end.verdict,
-            end.entries,
-            end.rectangles,
-            end.tile_words,
-            plan.hash.value(),
-            hash_bank(&bank)
-        )
+fn end_numbers(end: &End) -> [u64; 4] {
+    [end.verdict, end.entries, end.rectangles, end.tile_words]
+}
+
+/// The end's numbers, then two digests.
+fn part(end: &End, entries: u64, bank: u64) -> String {
+    let [verdict, entries_given, rectangles, words] = end_numbers(end);
+    format!("{verdict} {entries_given} {rectangles} {words} {entries:016x} {bank:016x}")
+}
+
+/// The digest of what the steps answer: the entries, and the end's numbers for each end.
+fn hash_answers(whole: &Answer) -> u64 {
+    let mut hash = whole.plan.hash;
+    for _ in 0..ENDS {
+        hash.words(&end_numbers(&whole.end));
+    }
+    hash.value()
+}
+
+/// What the Rust answers: the run, the whole plan as steps give it, and for a plan that is longer
+/// than the chunk the digests again, which a run into the chunk and steps after it have to give.
+fn line(item: &Item) -> String {
+    let ran = item.ran();
+    let whole = item.whole();
+    let run = part(&ran.end, ran.plan.hash.value(), hash_bank(&ran.bank));
+    let (answers, bank) = (hash_answers(&whole), hash_bank(&whole.bank));
+    let steps = part(&whole.end, answers, bank);
+    let mixed = if item.cut(&whole) {
+        format!(" {answers:016x} {bank:016x}")
+    } else {
+        String::new()
     };
+    format!("{run} {steps}{mixed}\n")
+}
+
+fn answers(items: &[Item]) -> String {
     items.iter().map(line).collect()
 }
 

@@ -1,7 +1,10 @@
 // 64-bit FNV-1a over words of eight bytes, the highest byte first.
 ghost use mathlib.Core.Path.{_≡_};
 ghost use Prim.Native.Nat.{_*_, _%_, _^_};
-ghost use Rattle.digest.specs.Fnv.{prime, fnv1a, wordInto, digestOf};
+ghost use Rattle.digest.specs.Fnv.{prime, fnv1a, wordInto, digestFrom, digestOf};
+
+// The digest of no words.
+pub const BASIS: u64 = 0xcbf2_9ce4_8422_2325;
 
 // The prime is 2^40 + 435, so the product modulo 2^64 is taken in parts that fit a word.
 fn times_prime(h: u64) -> u64
@@ -31,14 +34,21 @@ fn word_into(h: u64, w: u64) -> u64
     hash
 }
 
-pub fn digest(words: &[u64]) -> u64
-    ensures { λ r. ⌜ r ≡ digestOf (now (words .entry)) ⌝ }
+// Words after others that have been digested.
+pub fn digest_from(before: u64, words: &[u64]) -> u64
+    ensures { λ r. ⌜ r ≡ digestFrom before (now (words .entry)) ⌝ }
 {
-    let mut hash = 0xcbf2_9ce4_8422_2325;
+    let mut hash = before;
     let mut i: usize = 0;
     while i < words.len() {
         hash = word_into(hash, words[i]);
         i = i + 1;
     }
     hash
+}
+
+pub fn digest(words: &[u64]) -> u64
+    ensures { λ r. ⌜ r ≡ digestOf (now (words .entry)) ⌝ }
+{
+    digest_from(BASIS, words)
 }

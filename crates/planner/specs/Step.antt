@@ -186,23 +186,23 @@ module _ (p : Planner) (s : Step) (i : StepGives p s) where
       (t .0, (t .1, ap (λ (es : List Entry). leftNext es (coming p .left)) (sym (t .0)) ∙ sym (i .left) ∙ ap leftIn k))
 
   -- a step with a bank
-  pub with-entry : (b : Bank) (e : Entry) → s .given ≡ given.Entry e → StepIs p b (record { planner = s .planner; bank = bankStep b e; answer = answer.Entry e })
-  with-entry b e g =
+  pub with-entry : (b : Bank) (e : Entry) → s .given ≡ given.Entry e → (b′ : Bank) → b′ ≡ bankStep b e → StepIs p b (record { planner = s .planner; bank = b′; answer = answer.Entry e })
+  with-entry b e g b′ k =
       record {
         answer = sym (ap answerIn g) ∙ i .answer;
         rest = i .rest;
-        bank = ap (λ (es : List Entry). bankNext es (coming p .left) b) (sym (gave-entry e g));
+        bank = k ∙ ap (λ (es : List Entry). bankNext es (coming p .left) b) (sym (gave-entry e g));
         counts = i .counts;
         sound = i .sound;
       }
 
-  pub with-end : (b : Bank) (g : Given) → s .given ≡ g → (x : End) → answerIn g ≡ answer.End x → StepIs p b (record { planner = s .planner; bank = bankAfter b (leftIn g); answer = answer.End x })
-  with-end b g k x a =
+  pub with-end : (b : Bank) (g : Given) → s .given ≡ g → (x : End) → answerIn g ≡ answer.End x → (b′ : Bank) → b′ ≡ bankAfter b (leftIn g) → StepIs p b (record { planner = s .planner; bank = b′; answer = answer.End x })
+  with-end b g k x a b′ j =
       let t = gave-end g k x a in
       record {
         answer = sym a ∙ sym (ap answerIn k) ∙ i .answer;
         rest = i .rest;
-        bank = ap (bankAfter b) (sym (t .1 .1)) ∙ ap (λ (es : List Entry). bankNext es (coming p .left) b) (sym (t .0));
+        bank = j ∙ ap (bankAfter b) (sym (t .1 .1)) ∙ ap (λ (es : List Entry). bankNext es (coming p .left) b) (sym (t .0));
         counts = i .counts;
         sound = i .sound;
       }

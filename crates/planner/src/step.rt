@@ -105,16 +105,22 @@ impl Planner {
         let planner = s.planner;
         let given = s.given;
         match given {
-            Given::Entry(entry) => Stepped {
-                planner,
-                bank: words::bank_after(bank, entry),
-                answer: Answer::Entry(entry),
-            },
-            Given::Refused(size, end) => Stepped {
-                planner,
-                bank: words::bank_after(bank, size),
-                answer: Answer::End(end),
-            },
+            Given::Entry(entry) => {
+                let after = words::bank_after(bank, entry);
+                Stepped {
+                    planner,
+                    bank: after,
+                    answer: Answer::Entry(entry),
+                }
+            }
+            Given::Refused(size, end) => {
+                let sized = words::bank_after(bank, size);
+                Stepped {
+                    planner,
+                    bank: sized,
+                    answer: Answer::End(end),
+                }
+            }
             Given::End(end) => Stepped {
                 planner,
                 bank,

@@ -1,2 +1,4 @@
--- The laws of a run's outcome.
+-- The laws of what a run, steps, and both mixed leave.
+pub mod Banks
 pub mod Outcomes
+pub mod Stepping

@@ -2,7 +2,7 @@
 use mathlib.Core.Path.{_≡_, refl, ap, _∙_}
 use mathlib.Core.Bool.{Bool, true, false, cond}
 use mathlib.Core.List.{List, []}
-use Prim.Native.Nat.{ℕ, _+_, _*_, _/_, _<_, _≤_, min}
+use Prim.Native.Nat.{ℕ, _+_, _*_, _/_, _%_, _<_, _≤_, min}
 use native.Mathlib.Numerals.{add-one}
 use native.Mathlib.Omega.{arith}
 use borrow.Author.Tests.{ltb-false}
@@ -11,6 +11,7 @@ use lib.ListN.{length, take, drop, set, length-take}
 use lib.Seq.{take-at, take-suc-set, length-take-le}
 use Rattle.object.specs.declared.types.Verdict.the-variants as verdict
 use Rattle.object.specs.Layout.{read}
+use Rattle.tile.specs.declared.bank.Bank.{Bank}
 use Rattle.plan.specs.declared.types.End.{End}
 use Rattle.plan.specs.Check.{requestAt}
 use Rattle.plan.specs.Out.{Plan}
@@ -22,8 +23,9 @@ use Rattle.request.specs.Host.{withBytes}
 use Rattle.words.specs.Eleven.{eleven-each}
 use Rattle.words.specs.Host.{runWords}
 use Rattle.digest.specs.Fnv.{digestOf}
-use Rattle.replay.specs.declared.outcome.Outcome.{Outcome}
+use Rattle.replay.specs.declared.record.Replayed.{Replayed}
 use Rattle.replay.specs.Outcome.{outcomeOf, wordsIn}
+use Rattle.replay.specs.Steps.{replayedOf}
 
 few : (t : Bool) (n : ℕ) (p : Plan) → ltb (n / 11) (length (p .entries)) ≡ t → 11 * length (cond t (record { entries = take (n / 11) (p .entries); left = []; verdict = verdict.Full }) p .entries) ≤ n
 few true n p e = omega (arith, length-take (n / 11) (p .entries))
@@ -41,7 +43,7 @@ module _ (p : Plan) (buf ws : List ℕ) (end : End) (e : end ≡ runWords p buf 
   pub room : 11 * end .entries ≤ length buf
   room = omega (arith, count, cut-few (length buf) p)
 
-  standing : (out : List ℕ) → out ≡ runWords p buf ws .buffer → take (11 * end .entries) out ≡ planWords (cutAt (length buf) p .entries)
+  pub standing : (out : List ℕ) → out ≡ runWords p buf ws .buffer → take (11 * end .entries) out ≡ planWords (cutAt (length buf) p .entries)
   unfolding runWords
   standing out o =
       let es = cutAt (length buf) p .entries in
@@ -64,10 +66,11 @@ next-word bs numbers k x l t e = rw (add-one, take-suc-set numbers k x l, t, e)
 pub part : (m most k : ℕ) (xs : List ℕ) → m ≡ min most k → most ≤ length xs → length (take m xs) ≡ m
 part m most k xs e h = length-take-le m xs (omega arith)
 
-pub record-is : (bs buf : List ℕ) (q : Request) (b : List ℕ) (n m j k : ℕ) (r : Outcome) → ((n : ℕ) → withBytes (take n bs) q ≡ requestAt n bs) → n ≡ j → m ≡ min 2816 k → 2816 ≡ length buf
-    → r ≡ outcomeOf (planOf (withBytes (take n bs) q)) (length (take m buf)) b → r ≡ outcomeOf (planOf (requestAt j bs)) (min 2816 k) b
-record-is bs buf q b n m j k r f e i l o =
+pub record-is : (bs buf chunk : List ℕ) (q : Request) (b : Bank) (n m j k : ℕ) (r : Replayed) → ((n : ℕ) → withBytes (take n bs) q ≡ requestAt n bs) → n ≡ j → m ≡ min 2816 k → 2816 ≡ length buf → 121 ≡ length chunk
+    → r ≡ replayedOf (planOf (withBytes (take n bs) q)) (length (take m buf)) (length (take (m % 121) chunk)) b → r ≡ replayedOf (planOf (requestAt j bs)) (min 2816 k) (min 2816 k % 121) b
+record-is bs buf chunk q b n m j k r f e i l h o =
     let t = part m 2816 k buf i (omega arith) in
+    let u = length-take-le (m % 121) chunk (omega arith) in
     o
-    ∙ ap (λ (x : plan.Request). outcomeOf (planOf x) (length (take m buf)) b) (f n)
-    ∙ (λ d. outcomeOf (planOf (requestAt (e d) bs)) ((t ∙ i) d) b)
+    ∙ ap (λ (x : plan.Request). replayedOf (planOf x) (length (take m buf)) (length (take (m % 121) chunk)) b) (f n)
+    ∙ (λ d. replayedOf (planOf (requestAt (e d) bs)) ((t ∙ i) d) ((u ∙ ap (λ (x : ℕ). x % 121) i) d) b)

@@ -1,2 +1,4 @@
--- What the run of a record leaves.
+-- What the run of a record and its steps leave.
 pub mod Outcome
+pub mod Steps
+pub mod Passed

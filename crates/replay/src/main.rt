@@ -1,11 +1,16 @@
 // Runs a fixed list of records and prints of each what README.md says, to be compared with what the Rust answered.
+mod bank;
 mod files;
 mod outcome;
+mod record;
+mod steps;
 
 use files::bank_of;
-use files::record_outcome;
+use files::record_replayed;
 use libc::STDOUT_FILENO;
-use outcome::Outcome;
+use plan::End;
+use record::Mixed;
+use record::Replayed;
 
 // More records than the list has.
 const RECORDS: u32 = 4096;
@@ -15,16 +20,33 @@ fn number(n: u64) {
     io::write_all(STDOUT_FILENO, b" ");
 }
 
-fn print(o: Outcome) {
-    let end = o.end;
+fn print_end(end: End) {
     let verdict = end.verdict;
     number(object::number(verdict));
     number(end.entries);
     number(end.rectangles);
     number(end.words);
-    io::print_hex(STDOUT_FILENO, o.entries, 16);
+}
+
+fn print_digests(answers: u64, bank: u64) {
+    io::print_hex(STDOUT_FILENO, answers, 16);
     io::write_all(STDOUT_FILENO, b" ");
-    io::print_hex(STDOUT_FILENO, o.bank, 16);
+    io::print_hex(STDOUT_FILENO, bank, 16);
+}
+
+fn print(r: Replayed) {
+    let run = r.run;
+    print_end(run.end);
+    print_digests(run.entries, run.bank);
+    io::write_all(STDOUT_FILENO, b" ");
+    print_end(r.end);
+    let steps = r.steps;
+    print_digests(steps.answers, steps.bank);
+    let mixed = r.mixed;
+    if let Mixed::Cut(d) = mixed {
+        io::write_all(STDOUT_FILENO, b" ");
+        print_digests(d.answers, d.bank);
+    }
     io::write_all(STDOUT_FILENO, b"\n");
 }
 
@@ -37,7 +59,7 @@ fn replay(fd: i32, bank: [u64; 136]) {
         if got < 64 {
             return;
         }
-        print(record_outcome(&bytes, bank));
+        print(record_replayed(&bytes, bank));
     }
 }
 

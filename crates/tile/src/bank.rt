@@ -1,4 +1,4 @@
-// The tile bank: two setters by value, and over each a thin one that is lent the bank.
+// The tile bank: two setters by value, over each a thin one that is lent the bank, and an owner's call of that.
 ghost use mathlib.Core.Path.{_≡_};
 ghost use Rattle.tile.specs.Bank.{replaced as replacedBy, resized as resizedTo, setTile, setSize, extent};
 
@@ -53,7 +53,7 @@ fn replaced(old: Tile, tile: Tile) -> Tile
 }
 
 // Sets a tile; there is none from 8 on, and nothing is set.
-pub fn with_tile(bank: Bank, index: usize, tile: Tile) -> Bank
+fn with_tile(bank: Bank, index: usize, tile: Tile) -> Bank
     ensures { λ r. ⌜ r ≡ setTile bank index tile ⌝ }
 {
     if 8 <= index {
@@ -86,7 +86,7 @@ fn resized(old: Tile, uls: u16, ult: u16, lrs: u16, lrt: u16) -> Tile
 }
 
 // Sets a tile's bounds; nothing where there is no such tile.
-pub fn with_tile_size(bank: Bank, index: usize, uls: u16, ult: u16, lrs: u16, lrt: u16) -> Bank
+fn with_tile_size(bank: Bank, index: usize, uls: u16, ult: u16, lrs: u16, lrt: u16) -> Bank
     ensures { λ r. ⌜ r ≡ setSize bank index uls ult lrs lrt ⌝ }
 {
     if 8 <= index {
@@ -107,4 +107,22 @@ pub fn set_tile_size(bank: &mut Bank, index: usize, uls: u16, ult: u16, lrs: u16
     ensures { λ _. ⌜ now (bank .exit) ≡ setSize (now (bank .entry)) index uls ult lrs lrt ⌝ }
 {
     *bank = with_tile_size(*bank, index, uls, ult, lrs, lrt);
+}
+
+// An owner's bank after it was lent to a setter.
+
+pub fn tile_set(bank: Bank, index: usize, tile: Tile) -> Bank
+    ensures { λ r. ⌜ r ≡ setTile bank index tile ⌝ }
+{
+    let mut next = bank;
+    set_tile(&mut next, index, tile);
+    next
+}
+
+pub fn size_set(bank: Bank, index: usize, uls: u16, ult: u16, lrs: u16, lrt: u16) -> Bank
+    ensures { λ r. ⌜ r ≡ setSize bank index uls ult lrs lrt ⌝ }
+{
+    let mut next = bank;
+    set_tile_size(&mut next, index, uls, ult, lrs, lrt);
+    next
 }

@@ -6,8 +6,8 @@ use plan::Entry;
 use signed::word_of;
 use tile::Bank;
 use tile::Tile;
-use tile::with_tile;
-use tile::with_tile_size;
+use tile::size_set;
+use tile::tile_set;
 
 // The words of each kind: its number, what it gives, signed numbers modulo 2^64, then zeros.
 
@@ -242,7 +242,7 @@ pub fn bank_after(bank: Bank, e: Entry) -> Bank
                 masks as u8,
                 maskt as u8,
             );
-            with_tile(bank, index as usize, tile)
+            tile_set(bank, index as usize, tile)
         }
         Entry::Size {
             index,
@@ -250,7 +250,7 @@ pub fn bank_after(bank: Bank, e: Entry) -> Bank
             ult,
             lrs,
             lrt,
-        } => with_tile_size(
+        } => size_set(
             bank,
             index as usize,
             uls as u16,
@@ -265,7 +265,7 @@ pub fn bank_after(bank: Bank, e: Entry) -> Bank
             lrs,
             lrt,
             ..
-        } => with_tile_size(
+        } => size_set(
             bank,
             index as usize,
             uls as u16,

@@ -25,11 +25,11 @@ read-full-requires c κs = search needs
 returns : tie.Need-returns Inv-loop μ-loop
 returns c = search needs
 
-slice-aggregate-record-outcome : tie.Need-slice-aggregate-record-outcome Inv-loop μ-loop
-slice-aggregate-record-outcome c = search needs
+slice-aggregate-record-replayed : tie.Need-slice-aggregate-record-replayed Inv-loop μ-loop
+slice-aggregate-record-replayed c = search needs
 
-record-outcome-requires : tie.Need-record-outcome-requires Inv-loop μ-loop
-record-outcome-requires c κs = search needs
+record-replayed-requires : tie.Need-record-replayed-requires Inv-loop μ-loop
+record-replayed-requires c κs = search needs
 
 print-requires : tie.Need-print-requires Inv-loop μ-loop
 print-requires c κs = search needs
@@ -54,8 +54,8 @@ replay-spec =
     slice-aggregate-read-full
     read-full-requires
     returns
-    slice-aggregate-record-outcome
-    record-outcome-requires
+    slice-aggregate-record-replayed
+    record-replayed-requires
     print-requires
     loop-less
     loop-again

@@ -16,7 +16,7 @@ use prog.Wp.{Heap, Calls, Loops, WpFn, Tables}
 use ghost.Atoms.{Atoms, sem}
 use contract.Monad.{Fun, fact}
 use contract.Running.{givenOf, tables, tablesOf}
-use types.Kit.{Given, ‵, raw, some, later, _⊛_, ⋆, _$_, _∵_, !, qed, by, move, keep, drop, use0, use1, split, join, pick, fsplit, fsplit3, fjoin, fjoin3, feqI, suffices, frame, await, done}
+use types.Kit.{Given, ‵, raw, some, later, _⊛_, ⋆, _$_, _∵_, !, qed, by, move, drop, use0, use1, split, join, pick, fsplit, fsplit3, fjoin, fjoin3, feqI, suffices, frame, await, done}
 use types.Run.{look, look-raw, init, store-raw, forget, stop, hop, from, load, unit-lit, of-opd, and-then, no-more, assigns, land, returns, enter, alloc1, alloc0, params1, pass1, pass0, free1, free0}
 use types.SemTy.{Body}
 use sound.WpLaws.{FmC, fmOf, WpFn-mono}
@@ -41,6 +41,7 @@ use denote.Exit.{yes}
 use Rattle.tile.specs.Bank.{setTile}
 use Rattle.tile.specs.declared.bank.Bank.{Bank}
 use Rattle.tile.specs.declared.bank.Tile.{Tile}
+use Rattle.tile.proofs.Lent.{bank-val, IsBank}
 use Rattle.tile.proofs.bank.Bank as T
 use Rattle.tile.proofs.bank.Bank.Laws as T′
 use Rattle.tile.proofs.bank.Tile as S
@@ -61,10 +62,7 @@ stayed = (stay-ref (0 ∷ []) tt (plain (λ _. T.the-row)), (stay-none (λ _. us
 abbrev ByValue : {M : Type 1} (𝓤 : URA M) (H : Heap 𝓤) (A : Atoms 𝓤) (mem : Memory → SProp 𝓤) (run : Routine → Fun 𝓤) → Contract 𝓤
 ByValue 𝓤 H A mem run = tripleOf 𝓤 H A by-value.signature (by-value.spec 𝓤 H A mem run)
 
--- the machine values of a bank and of a tile
-abbrev bank-val : Bank → Val
-bank-val h = LL.val T.the-type T′.the-laws h
-
+-- the machine value of a tile
 abbrev tile-val : Tile → Val
 tile-val t = LL.val S.the-type S′.the-laws t
 
@@ -84,7 +82,7 @@ module _ {M : Type 1} (𝓤 : URA M) (H : Heap 𝓤) (A : Atoms 𝓤) (W : Given
   to = ((tt, tt, tt, (h, (n, (t, tt))), (bank-val h ∷ [], (vint w64 n ∷ [], (tile-val t ∷ [], tt)))), tt)
 
   -- what the callee asks: facts alone
-  goes : Is T.the-row h (bank-val h ∷ []) → ent 𝓤 (emp 𝓤) (ByValue 𝓤 H A at-mem run .pre to)
+  goes : IsBank h → ent 𝓤 (emp 𝓤) (ByValue 𝓤 H A at-mem run .pre to)
   goes h-is =
       qed W [] ∵ nothing ! $ owned ! S.the-row (Is S.the-row) (LL.makes S.the-type S′.the-plain 𝓤 H A) t _ t-is $ fjoin ! $
       owned ! usize (Is usize) (uint-makes 𝓤 H A W w64) n _ (refl, n-fits) $ fjoin ! $ owned ! T.the-row (Is T.the-row) (LL.makes T.the-type T′.the-plain 𝓤 H A) h _ h-is $ fjoin ! $ nothing ! $ join ! $ frame ! $ done !

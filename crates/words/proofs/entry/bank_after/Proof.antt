@@ -56,60 +56,60 @@ cast-described-9 c =
 described-requires : tie.Need-described-requires
 described-requires c κs = search needs
 
-with-tile-requires : tie.Need-with-tile-requires
-with-tile-requires c κs = search needs
+tile-set-requires : tie.Need-tile-set-requires
+tile-set-requires c κs = search needs
 
 enum-known-e-2 : tie.Need-enum-known-e-2
 enum-known-e-2 c = search needs
 
-cast-with-tile-size : tie.Need-cast-with-tile-size
-cast-with-tile-size c =
+cast-size-set : tie.Need-cast-size-set
+cast-size-set c =
     let n = rw (c .before .e2 .given .1) at (c .before .before .before .pre) in
     omega (arith, n .0)
 
-cast-with-tile-size-2 : tie.Need-cast-with-tile-size-2
-cast-with-tile-size-2 c =
+cast-size-set-2 : tie.Need-cast-size-set-2
+cast-size-set-2 c =
     let n = rw (c .before .e2 .given .1) at (c .before .before .before .pre) in
     omega (arith, n .1 .0)
 
-cast-with-tile-size-3 : tie.Need-cast-with-tile-size-3
-cast-with-tile-size-3 c =
+cast-size-set-3 : tie.Need-cast-size-set-3
+cast-size-set-3 c =
     let n = rw (c .before .e2 .given .1) at (c .before .before .before .pre) in
     omega (arith, n .1 .1 .0)
 
-cast-with-tile-size-4 : tie.Need-cast-with-tile-size-4
-cast-with-tile-size-4 c =
+cast-size-set-4 : tie.Need-cast-size-set-4
+cast-size-set-4 c =
     let n = rw (c .before .e2 .given .1) at (c .before .before .before .pre) in
     omega (arith, n .1 .1 .1)
 
-with-tile-size-requires : tie.Need-with-tile-size-requires
-with-tile-size-requires c κs = search needs
+size-set-requires : tie.Need-size-set-requires
+size-set-requires c κs = search needs
 
 enum-known-e-3 : tie.Need-enum-known-e-3
 enum-known-e-3 c = search needs
 
-cast-with-tile-size-5 : tie.Need-cast-with-tile-size-5
-cast-with-tile-size-5 c =
+cast-size-set-5 : tie.Need-cast-size-set-5
+cast-size-set-5 c =
     let n = rw (c .before .e3 .given .1) at (c .before .before .before .pre) in
     omega (arith, n .0)
 
-cast-with-tile-size-6 : tie.Need-cast-with-tile-size-6
-cast-with-tile-size-6 c =
+cast-size-set-6 : tie.Need-cast-size-set-6
+cast-size-set-6 c =
     let n = rw (c .before .e3 .given .1) at (c .before .before .before .pre) in
     omega (arith, n .1 .0)
 
-cast-with-tile-size-7 : tie.Need-cast-with-tile-size-7
-cast-with-tile-size-7 c =
+cast-size-set-7 : tie.Need-cast-size-set-7
+cast-size-set-7 c =
     let n = rw (c .before .e3 .given .1) at (c .before .before .before .pre) in
     omega (arith, n .1 .1 .0)
 
-cast-with-tile-size-8 : tie.Need-cast-with-tile-size-8
-cast-with-tile-size-8 c =
+cast-size-set-8 : tie.Need-cast-size-set-8
+cast-size-set-8 c =
     let n = rw (c .before .e3 .given .1) at (c .before .before .before .pre) in
     omega (arith, n .1 .1 .1)
 
-with-tile-size-requires-2 : tie.Need-with-tile-size-requires-2
-with-tile-size-requires-2 c κs = search needs
+size-set-requires-2 : tie.Need-size-set-requires-2
+size-set-requires-2 c κs = search needs
 
 enum-told : tie.Need-enum-told
 enum-told c = search needs
@@ -119,15 +119,15 @@ enum-told-2 c = search needs
 
 returns : tie.Need-returns
 unfolding bankStep
-returns c = rw (c .before .before .before .e .given .1, c .with-tile .ensures, c .before .described .ensures)
+returns c = rw (c .before .before .before .e .given .1, c .tile-set .ensures, c .before .described .ensures)
 
 returns-2 : tie.Need-returns-2
 unfolding bankStep
-returns-2 c = rw (c .before .before .e2 .given .1, c .with-tile-size .ensures)
+returns-2 c = rw (c .before .before .e2 .given .1, c .size-set .ensures)
 
 returns-3 : tie.Need-returns-3
 unfolding bankStep
-returns-3 c = rw (c .before .before .e3 .given .1, c .with-tile-size2 .ensures)
+returns-3 c = rw (c .before .before .e3 .given .1, c .size-set2 .ensures)
 
 returns-4 : tie.Need-returns-4
 unfolding bankStep
@@ -152,19 +152,19 @@ bank-after-spec =
     cast-described-8
     cast-described-9
     described-requires
-    with-tile-requires
+    tile-set-requires
     enum-known-e-2
-    cast-with-tile-size
-    cast-with-tile-size-2
-    cast-with-tile-size-3
-    cast-with-tile-size-4
-    with-tile-size-requires
+    cast-size-set
+    cast-size-set-2
+    cast-size-set-3
+    cast-size-set-4
+    size-set-requires
     enum-known-e-3
-    cast-with-tile-size-5
-    cast-with-tile-size-6
-    cast-with-tile-size-7
-    cast-with-tile-size-8
-    with-tile-size-requires-2
+    cast-size-set-5
+    cast-size-set-6
+    cast-size-set-7
+    cast-size-set-8
+    size-set-requires-2
     enum-told
     enum-told-2
     returns

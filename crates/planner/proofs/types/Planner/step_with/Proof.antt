@@ -1,5 +1,5 @@
 -- `planner::types::Planner::step_with` meets its contract: what the step gives picks the law. Assumes nothing.
-use mathlib.Core.Path.{_≡_, refl, sym, ap, _∙_}
+use mathlib.Core.Path.{refl}
 use Rattle.plan.specs.Run.{bankAfter}
 use Rattle.planner.specs.declared.types.Given.the-variants as given
 use Rattle.planner.specs.Step.{with-entry, with-end}
@@ -28,19 +28,19 @@ enum-known-given-3 c = search needs
 returns : tie.Need-returns
 returns c =
     let s = c .before .before .before .before .before .step in
-    rw (c .bank-after .ensures) (with-entry _ (s .result) (s .ensures) _ _ (c .before .before .given .given .1))
+    with-entry _ (s .result) (s .ensures) _ _ (c .before .before .given .given .1) _ (c .bank-after .ensures)
 
 returns-2 : tie.Need-returns-2
 unfolding bankAfter
 returns-2 c =
     let s = c .before .before .before .before .before .step in
-    rw (c .bank-after2 .ensures) (with-end _ (s .result) (s .ensures) _ (given.Refused _ _) (c .before .before .given2 .given .1) _ refl)
+    with-end _ (s .result) (s .ensures) _ (given.Refused _ _) (c .before .before .given2 .given .1) _ refl _ (c .bank-after2 .ensures)
 
 returns-3 : tie.Need-returns-3
 unfolding bankAfter
 returns-3 c =
     let s = c .before .before .before .before .step in
-    with-end _ (s .result) (s .ensures) _ (given.End _) (c .before .given3 .given .1) _ refl
+    with-end _ (s .result) (s .ensures) _ (given.End _) (c .before .given3 .given .1) _ refl _ refl
 
 pub step-with-spec : {M : Type 1} → statement M
 step-with-spec =

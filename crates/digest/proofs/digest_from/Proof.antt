@@ -1,20 +1,20 @@
--- `digest::digest` meets its contract. The invariant: the words to come lead to the whole digest. Assumes nothing.
+-- `digest::digest_from` meets its contract. The invariant: the words to come lead to the whole digest. Assumes nothing.
 use mathlib.Core.Path.{_≡_, refl, _∙_}
 use mathlib.Core.List.{[]}
 use Prim.Native.Nat.{_≤_, _-_}
 use native.Mathlib.Omega.{arith}
 use borrow.Author.Needs.{needs}
 use lib.ListN.{length, drop, drop-of-length-le}
-use Rattle.digest.specs.Fnv.{digestFrom, digestOf}
+use Rattle.digest.specs.Fnv.{digestFrom}
 use Rattle.digest.proofs.Product.{next-word}
-use Rattle.digest.proofs.digest.Statement.{statement}
-use Rattle.digest.proofs.digest.Tie as tie
+use Rattle.digest.proofs.digest_from.Statement.{statement}
+use Rattle.digest.proofs.digest_from.Tie as tie
 
 abbrev Inv-loop : tie.InvT-loop
-Inv-loop words hash₀ i₀ hash i = (i ≤ length words) × (digestFrom hash (drop i words) ≡ digestOf words)
+Inv-loop before words hash₀ i₀ hash i = (i ≤ length words) × (digestFrom hash (drop i words) ≡ digestFrom before words)
 
 abbrev μ-loop : tie.MeasureT-loop
-μ-loop words hash₀ i₀ hash i = length words - i
+μ-loop before words hash₀ i₀ hash i = length words - i
 
 loop-holds : tie.Need-loop-holds Inv-loop μ-loop
 loop-holds c = (omega arith, refl)
@@ -48,8 +48,8 @@ returns c =
     let none : drop (l .i) ws ≡ [] = drop-of-length-le ws {i = l .i} (omega arith) in
     rw none at (l .inv .1)
 
-pub digest-spec : {M : Type 1} → statement M
-digest-spec =
+pub digest-from-spec : {M : Type 1} → statement M
+digest-from-spec =
     tie.close
     (tie.spec
     Inv-loop
