@@ -5,6 +5,7 @@ use mathlib.Core.Path.{_≡_}
 use Prim.Native.Nat.{ℕ, _≤_, _-_, _^_}
 use lib.IntN.{ℤ, pos, negℤ}
 use lib.Signed.{_≤ℤ_}
+use Rattle.signed.specs.Diff.{up, ge-dn, zarith}
 use Rattle.object.specs.declared.types.ObjBg.{ObjBg}
 use Rattle.object.specs.declared.types.Scissor.{Scissor}
 use Rattle.object.specs.declared.types.Checked.{Checked}
@@ -20,6 +21,10 @@ pub record Below (k : ℕ) (z : ℤ) : Type 0 where
 pub record Within (k : ℕ) (z : ℤ) : Type 0 where
   pub low : negℤ (pos (2 ^ k)) ≤ℤ z
   pub high : z ≤ℤ pos (2 ^ k - 1)
+
+-- a number that is not negative is what `up` takes of it
+pub counted : {z : ℤ} → pos 0 ≤ℤ z → pos (up z) ≡ z
+counted {z} l = let d = ge-dn z 0 l in omega zarith
 
 -- the ranges of the fields that a plan computes with
 pub record InRange (bg : ObjBg) : Type 0 where
