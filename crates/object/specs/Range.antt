@@ -5,6 +5,9 @@ use mathlib.Core.Path.{_≡_}
 use Prim.Native.Nat.{ℕ, _≤_, _-_, _^_}
 use lib.IntN.{ℤ, pos, negℤ}
 use lib.Signed.{_≤ℤ_}
+use mir.Syntax.{w64}
+use mir.Val.{SFits, toZ, ofZ}
+use mir.ValLaws.{toZ-ofZ}
 use Rattle.signed.specs.Diff.{up, ge-dn, zarith}
 use Rattle.object.specs.declared.types.ObjBg.{ObjBg}
 use Rattle.object.specs.declared.types.Scissor.{Scissor}
@@ -25,6 +28,10 @@ pub record Within (k : ℕ) (z : ℤ) : Type 0 where
 -- a number that is not negative is what `up` takes of it
 pub counted : {z : ℤ} → pos 0 ≤ℤ z → pos (up z) ≡ z
 counted {z} l = let d = ge-dn z 0 l in omega zarith
+
+-- and what its bits read as
+pub below-read : {k : ℕ} {z : ℤ} → 2 ^ k ≤ 2 ^ 63 → Below k z → toZ w64 (ofZ w64 z) ≡ z
+below-read {k} {z} p b = let f : SFits w64 z = omega zarith in toZ-ofZ w64 z f
 
 -- the ranges of the fields that a plan computes with
 pub record InRange (bg : ObjBg) : Type 0 where

@@ -25,6 +25,7 @@ pub use measure::row_part;
 pub use measure::sampled_by;
 pub use measure::shown_at;
 pub use measure::signed_whole;
+pub use measure::strip_lines;
 pub use measure::texels;
 pub use measure::thirty_seconds;
 pub use measure::whole;

@@ -52,6 +52,13 @@ pub fn texels(q: Quarters) -> u64
     quarters(q) / 4
 }
 
+// The lines of a strip in texture memory: those of `tmem_h`, which is in quarters too.
+pub fn strip_lines(tmem_h: u16) -> u64
+    ensures { λ r. ⌜ (r ≡ texels «tmem_h») × (r ≤ 16383) ⌝ }
+{
+    (tmem_h / 4) as u64
+}
+
 // Cells, texels or lines as a width or a height.
 pub fn of_texels(n: i64) -> Quarters
     requires { ⌜ Within 60 n ⌝ }
