@@ -2,13 +2,13 @@
 -- Assumes nothing.
 use mathlib.Core.List.{List}
 use mathlib.Core.Path.{_≡_}
-use Prim.Native.Nat.{ℕ, _≤_, _-_, _^_}
-use lib.IntN.{ℤ, pos, negℤ}
+use Prim.Native.Nat.{ℕ, _+_, _≤_, _-_, _^_}
+use lib.IntN.{ℤ, pos, negℤ, _+ℤ_}
 use lib.Signed.{_≤ℤ_}
 use mir.Syntax.{w64}
 use mir.Val.{SFits, toZ, ofZ}
 use mir.ValLaws.{toZ-ofZ}
-use Rattle.signed.specs.Diff.{up, ge-dn, zarith}
+use Rattle.signed.specs.Diff.{up, ge-dn, zdiff, zarith}
 use Rattle.object.specs.declared.types.ObjBg.{ObjBg}
 use Rattle.object.specs.declared.types.Scissor.{Scissor}
 use Rattle.object.specs.declared.types.Checked.{Checked}
@@ -28,6 +28,9 @@ pub record Within (k : ℕ) (z : ℤ) : Type 0 where
 -- a number that is not negative is what `up` takes of it
 pub counted : {z : ℤ} → pos 0 ≤ℤ z → pos (up z) ≡ z
 counted {z} l = let d = ge-dn z 0 l in omega zarith
+
+pub counted-sum : {z : ℤ} (n : ℕ) → pos 0 ≤ℤ z → z +ℤ pos n ≡ pos (up z + n)
+counted-sum {z} n l = let d = ge-dn z 0 l in simp zdiff (omega zarith)
 
 -- and what its bits read as
 pub below-read : {k : ℕ} {z : ℤ} → 2 ^ k ≤ 2 ^ 63 → Below k z → toZ w64 (ofZ w64 z) ≡ z

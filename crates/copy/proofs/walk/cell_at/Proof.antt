@@ -1,15 +1,14 @@
 -- `copy::walk::cell_at`: the sum of two numbers that are not negative is read back. Assumes nothing.
 use mathlib.Core.Path.{_≡_}
-use Prim.Native.Nat.{ℕ, _+_, _*_}
+use Prim.Native.Nat.{_+_, _*_}
 use lib.Dec.{lit≤}
-use lib.IntN.{ℤ, pos, _+ℤ_}
-use lib.Signed.{_≤ℤ_}
+use lib.IntN.{pos, _+ℤ_}
 use mir.Syntax.{w64}
 use mir.Val.{SFits, toZ, ofZ}
 use borrow.Author.Needs.{needs}
-use Rattle.signed.specs.Diff.{up, ge-dn, zdiff, zarith}
+use Rattle.signed.specs.Diff.{up, zarith}
 use Rattle.signed.specs.Word.{rd, rdn}
-use Rattle.object.specs.Range.{below-read}
+use Rattle.object.specs.Range.{below-read, counted-sum}
 use Rattle.copy.proofs.walk.cell_at.Statement.{statement}
 use Rattle.copy.proofs.walk.cell_at.Tie as tie
 
@@ -24,14 +23,11 @@ after c =
     let f : SFits w64 (pos (c .before .args .cells * 4)) = omega zarith in
     rw (c .of-texels .ensures, rdn (c .before .args .cells) (cast-of-texels (c .before) .sfits)) (rd f)
 
-sum-is : (z : ℤ) (n : ℕ) → pos 0 ≤ℤ z → z +ℤ pos n ≡ pos (up z + n)
-sum-is z n l = let d = ge-dn z 0 l in simp zdiff (omega zarith)
-
 -- the sum, read back
 sum : (c : tie.After-struct-told2) → toZ w64 (ofZ w64 (c .before .before .before .before .before .args .edge .0)) +ℤ toZ w64 (ofZ w64 (c .before .before .before .before .of-texels .result .0)) ≡ pos (up (c .before .before .before .before .before .args .edge .0) + c .before .before .before .before .before .args .cells * 4)
 sum c =
     let a = c .before .before .before .before .before in
-    rw (below-read (lit≤ tt) (a .pre .0), after (c .before .before .before .before)) (sum-is (a .args .edge .0) (a .args .cells * 4) (a .pre .0 .low))
+    rw (below-read (lit≤ tt) (a .pre .0), after (c .before .before .before .before)) (counted-sum (a .args .cells * 4) (a .pre .0 .low))
 
 add-result : tie.Need-add-result
 add-result c = rw (sum c) (omega zarith)
