@@ -11,6 +11,7 @@ use Rattle.signed.specs.Cast.{u16}
 use lib.IntN.{ℤ, pos, negsuc, negℤ, _+ℤ_, _-ℤ_, _*ℤ_}
 use lib.Signed.{_≤ℤ_}
 use Rattle.signed.specs.Diff.{up, dn, zdiff, zparts, zarith}
+use Rattle.object.specs.Measure.{quarters, texels}
 use Rattle.object.specs.declared.types.Verdict.the-variants as verdict
 use Rattle.plan.specs.declared.types.Entry.{Entry}
 use Rattle.plan.specs.declared.types.Entry.the-variants.{Size}
@@ -281,7 +282,7 @@ module _ (z : Scaled) (c : Clip) (f : First) (zs : SoundScaled z) (fs : SoundFir
     unfolding comingScaled scaledPlan passesOf
     start-at =
         record {
-          is = rw (iz, iw) (sym (ap planOut (after-yield (sourceAddress (z .address) (pos (z .stride * f .«image_row» + z .«x_offset»))) pointer _ e ∙ three (tile7 z (pos 0)) (tile0 z) (Size 0 0 0 0 0) (passes (65 * (c .height / 4)) z (firstPass z c f pointer)))));
+          is = rw (iz, iw) (sym (ap planOut (after-yield (sourceAddress (z .address) (pos (z .stride * f .«image_row» + z .«x_offset»))) pointer _ e ∙ three (tile7 z (pos 0)) (tile0 z) (Size 0 0 0 0 0) (passes (65 * texels (quarters (c .height))) z (firstPass z c f pointer)))));
           sound = record { scaled = rw iz zs; walk = rw iw (first-sound pointer) };
           left = rw iw (omega (arith, cs .height));
         }

@@ -14,6 +14,7 @@ use Rattle.signed.specs.Diff.{up, dn, zdiff, zparts, zarith}
 use Rattle.signed.specs.Floor.{floorDiv, modulo}
 use Rattle.signed.specs.Cast.{minZ}
 use Rattle.object.specs.declared.types.Verdict.the-variants as verdict
+use Rattle.object.specs.Measure.{whole}
 use Rattle.object.specs.Range.{Within}
 use Rattle.plan.specs.declared.types.Scaled.{Scaled}
 use Rattle.plan.specs.declared.types.Source.{Source}
@@ -109,15 +110,15 @@ cut-low z rows left zs f g = by (ltZ left (pos 0))
     sums : (a b : ℤ) → negℤ (pos (2 ^ 27)) ≤ℤ a → negℤ (pos (2 ^ 27)) ≤ℤ b → negℤ (pos (2 ^ 28)) ≤ℤ (a +ℤ b +ℤ pos 1)
     sums a b p q = simp zdiff (omega zarith)
 
-    by : (t : Bool) → negℤ (pos (2 ^ 28)) ≤ℤ cond t (minZ (rows +ℤ floorDiv (left *ℤ pos (z .«scale_h»)) 1024 +ℤ pos 1) (pos (z .«image_rows»))) rows
-    by true = least-low (rows +ℤ floorDiv (left *ℤ pos (z .«scale_h»)) 1024 +ℤ pos 1) (pos (z .«image_rows»)) (2 ^ 28) (sums rows (floorDiv (left *ℤ pos (z .«scale_h»)) 1024) f (over-low left (z .«scale_h») g (zs .scale-h′))) (omega zarith)
+    by : (t : Bool) → negℤ (pos (2 ^ 28)) ≤ℤ cond t (minZ (rows +ℤ whole (left *ℤ pos (z .«scale_h» .0)) +ℤ pos 1) (pos (z .«image_rows»))) rows
+    by true = least-low (rows +ℤ whole (left *ℤ pos (z .«scale_h» .0)) +ℤ pos 1) (pos (z .«image_rows»)) (2 ^ 28) (sums rows (whole (left *ℤ pos (z .«scale_h» .0))) f (over-low left (z .«scale_h» .0) g (zs .scale-h′))) (omega zarith)
     by false = omega zarith
 
 cut-high : (z : Scaled) (rows left : ℤ) → SoundScaled z → rows ≤ℤ pos 512 → cutRows z rows left ≤ℤ pos 512
 cut-high z rows left zs f = by (ltZ left (pos 0))
   where
-    by : (t : Bool) → cond t (minZ (rows +ℤ floorDiv (left *ℤ pos (z .«scale_h»)) 1024 +ℤ pos 1) (pos (z .«image_rows»))) rows ≤ℤ pos 512
-    by true = least-high (rows +ℤ floorDiv (left *ℤ pos (z .«scale_h»)) 1024 +ℤ pos 1) (pos (z .«image_rows»)) 512 (omega (zarith, zs .image-rows′))
+    by : (t : Bool) → cond t (minZ (rows +ℤ whole (left *ℤ pos (z .«scale_h» .0)) +ℤ pos 1) (pos (z .«image_rows»))) rows ≤ℤ pos 512
+    by true = least-high (rows +ℤ whole (left *ℤ pos (z .«scale_h» .0)) +ℤ pos 1) (pos (z .«image_rows»)) 512 (omega (zarith, zs .image-rows′))
     by false = f
 
 -- the place before a pass's load
