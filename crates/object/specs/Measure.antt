@@ -18,29 +18,29 @@ thirtySeconds t = up (t .0)
 
 -- ---- quarters and whole texels
 
--- R 417–419, 431–439 "/ 4", 261–262 ">> 2": whole texels of a width, whole lines of a height
+-- R 261–262 ">> 2", 417–419, 438–439, 462–463 "/ 4": whole texels of a width, whole lines of a height
 abbrev pub texels : ℕ → ℕ
 texels q = q / 4
 
--- R 541–544 "* 4", 391–393 "* 4": cells, texels or lines, in quarters
+-- R 390–392, 516–527, 535–538 "* 4": cells, texels or lines, in quarters
 abbrev pub ofTexels : ℕ → ℕ
 ofTexels n = n * 4
 
--- R 431–439, 248–251 "* 4": a scissor edge, which is never negative after check 3, in quarters
+-- R 248–251, 434–437 "* 4": a scissor edge, which is never negative after check 3, in quarters
 abbrev pub edge : ℤ → ℕ
 edge z = ofTexels (up z)
 
 -- ---- thirty-seconds and whole rows
 
--- R 461–462 "/ 32", 279 ">> 5": whole texels of an image position, whole rows of an image height
+-- R 279 ">> 5", 461–462 "/ 32": whole texels of an image position, whole rows of an image height
 abbrev pub wholeTexels : ℕ → ℕ
 wholeTexels t = t / 32
 
--- R 267, 273–274, 288 "* 32": rows or columns of the image, in thirty-seconds
+-- R 267, 273–274, 287 "* 32": rows or columns of the image, in thirty-seconds
 abbrev pub ofRows : ℕ → ℕ
 ofRows n = n * 32
 
--- R 310 "(origin & !0x1f) / 32": whole rows of an origin, which may be negative
+-- R 311 "(origin & !0x1f) / 32": whole rows of an origin, which may be negative
 abbrev pub wholeRows : ℤ → ℤ
 wholeRows t = floorDiv t 32
 
@@ -50,7 +50,7 @@ wholeRows t = floorDiv t 32
 abbrev pub inImage : ℕ → ℕ
 inImage q = q * 8
 
--- R 266, 268–269, 288 ">> 7": what a frame width at a scale takes of the image
+-- R 266, 268–269, 287 ">> 7": what a frame width at a scale takes of the image
 abbrev pub sampledBy : ℕ → ℕ → ℕ
 sampledBy q scale = q * scale / 128
 
@@ -60,7 +60,7 @@ shownAt q scale = q * 1024 / scale
 
 -- ---- rows and lines in 1,024ths: counts, and no scales
 
--- R 293 "<< 20) / scale_h": the frame lines that image rows give at a scale
+-- R 292 "<< 20) / scale_h": the frame lines that image rows give at a scale
 abbrev pub linesAt : (rows scale : ℕ) → ℕ
 linesAt rows scale = rows * 2 ^ 20 / scale
 
@@ -72,7 +72,7 @@ ofPosition t = t *ℤ pos 32
 abbrev pub ofLines : ℤ → ℤ
 ofLines n = n *ℤ pos 1024
 
--- R 306, 309–310, 354 ">> 10": the whole rows or lines of a number of 1,024ths
+-- R 306, 309, 311, 354, 368 ">> 10": the whole rows or lines of a number of 1,024ths
 abbrev pub whole : ℤ → ℤ
 whole n = floorDiv n 1024
 
@@ -86,7 +86,7 @@ inThirtySeconds z = record { 0 = z }
 abbrev pub inScale : ℕ → Scale
 inScale n = record { 0 = n }
 
--- R 241, 248–255 ".max(0)": a number of quarters, 0 where it would be negative
+-- R 241, 248–251 ".max(0)": a number of quarters, 0 where it would be negative
 abbrev pub extent : ℤ → Quarters
 extent z = inQuarters (pos (up z))
 
@@ -100,7 +100,7 @@ widthSampled q scale = inThirtySeconds (pos (sampledBy (quarters q) (scale .0)))
 abbrev pub widthShown : Quarters → Scale → Quarters
 widthShown q scale = inQuarters (pos (shownAt (quarters q) (scale .0)))
 
--- from whole texels, from 64-bit words of 16-bit texels (R 150 "* 16"), and from whole rows or columns of the image; the code's may be negative
+-- the same of numbers that may be negative: R 155 "* 4", 154 "* 16" of 64-bit words of 16-bit texels, 541 "* 32"
 abbrev pub texelsWide : ℤ → Quarters
 texelsWide n = inQuarters (n *ℤ pos 4)
 

@@ -15,7 +15,6 @@ pub use measure::in_image;
 pub use measure::lines_at;
 pub use measure::of_lines;
 pub use measure::of_position;
-pub use measure::of_quarters;
 pub use measure::of_rows;
 pub use measure::of_texels;
 pub use measure::of_thirty_seconds;

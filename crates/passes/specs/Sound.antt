@@ -1,27 +1,27 @@
 -- The ranges that a scaled walk keeps, so that no sum overflows, and how many entries are still to come at the most.
 -- Assumes nothing.
 use mathlib.Core.Path.{_≡_}
-use Prim.Native.Nat.{ℕ, suc, _+_, _-_, _*_, _/_, _^_, _≤_, _<_}
+use Prim.Native.Nat.{ℕ, suc, _+_, _-_, _*_, _/_, _^_, _≤_}
 use mathlib.Core.Bool.{true, false, cond}
 use lib.Dec.{eqb}
 use lib.IntN.{ℤ, pos, negℤ, _+ℤ_, _-ℤ_, _*ℤ_}
 use lib.Signed.{_≤ℤ_, ltZ, leZ}
 use Rattle.signed.specs.Diff.{up, dn}
-use Rattle.signed.specs.Floor.{floorDiv, modulo}
+use Rattle.signed.specs.Floor.{modulo}
 use Rattle.signed.specs.Cast.{minZ}
 use Rattle.object.specs.Measure.{quarters, whole}
 use Rattle.object.specs.Range.{Below, Within}
 use Rattle.plan.specs.declared.types.Scaled.{Scaled}
 use Rattle.plan.specs.declared.types.Source.{Source}
 use Rattle.plan.specs.declared.types.Walk.{Walk}
-use mathlib.Core.List.{List, [], _∷_}
+use mathlib.Core.List.{[], _∷_}
 use Rattle.object.specs.declared.types.Verdict.the-variants as verdict
 use Rattle.plan.specs.declared.types.Clip.{Clip}
 use Rattle.plan.specs.Next.{cons, ended}
 use Rattle.plan.specs.Out.{Out, Plan, emit}
 use Rattle.plan.specs.Out.Out.{stop}
 use Rattle.plan.specs.Sound.{SoundScaled, EntryIn, Narrow}
-use Rattle.plan.specs.Scaled.{drawOf, leftAfter, linesOf, rowsOf, afterDraw}
+use Rattle.plan.specs.Scaled.{drawOf, leftAfter, linesOf, afterDraw}
 use Rattle.passes.specs.declared.types.Part.{Part}
 use Rattle.passes.specs.declared.types.Piece.{Piece}
 use Rattle.passes.specs.declared.types.Piece.the-variants as piece

@@ -1,13 +1,13 @@
 // The passes: those without a line are passed over, and one that draws begins.
 ghost use mathlib.Core.Path.{_≡_};
 ghost use Prim.Native.Nat.{_+_, _*_, _≤_, _<_, _^_};
-ghost use lib.IntN.{pos, negℤ};
+ghost use lib.IntN.{pos};
 ghost use lib.Signed.{_≤ℤ_};
 ghost use Rattle.signed.specs.Diff.{up};
 ghost use Rattle.object.specs.Range.{Within};
 ghost use Rattle.plan.specs.Out.{planOut};
 ghost use Rattle.plan.specs.Sound.{SoundScaled};
-ghost use Rattle.plan.specs.Scaled.{drawOf, leftAfter, linesOf, rowsOf, nextPass, afterDraw};
+ghost use Rattle.plan.specs.Scaled.{drawOf, nextPass, afterDraw};
 ghost use Rattle.passes.specs.Coming.{passesOf};
 ghost use Rattle.passes.specs.Sound.{SoundWalk, SoundRect, Runs, Begins, cutLines, cutRows, dueLines};
 use crate::rows::less;

@@ -2,20 +2,17 @@
 -- After the test for an empty frame nothing here is negative, and every difference of naturals is of a number and one that is no greater.
 -- Assumes nothing.
 use mathlib.Core.Bool.{Bool, true, false, cond, _||_}
-use mathlib.Core.List.{List, [], _∷_}
 use Prim.Native.Nat.{ℕ, zero, suc, _+_, _-_, _*_, _/_, _%_, _^_, min, max}
 use lib.Dec.{ltb, eqb}
-use lib.IntN.{ℤ, pos, negℤ, _+ℤ_, _-ℤ_, _*ℤ_}
+use lib.IntN.{ℤ, pos, negℤ, _+ℤ_, _-ℤ_}
 use Rattle.signed.specs.Diff.{up}
 use Rattle.signed.specs.Floor.{modulo}
-use Rattle.signed.specs.Cast.{minZ, u16, i16}
+use Rattle.signed.specs.Cast.{minZ, i16}
 use Rattle.object.specs.declared.types.Scissor.{Scissor}
 use Rattle.object.specs.declared.types.ObjBg.{ObjBg}
 use Rattle.object.specs.Measure.{quarters, thirtySeconds, texels, ofTexels, edge, wholeTexels, inQuarters, rowsHigh}
-use Rattle.plan.specs.declared.types.Entry.{Entry}
 use Rattle.plan.specs.Out.{Out, _>>=_, _>>_, yield, emit, refuse}
-use Rattle.plan.specs.declared.types.Entry.the-variants.{Image, Tile, Size, Load, Rect}
-use Rattle.plan.specs.Out.Out.{go}
+use Rattle.plan.specs.declared.types.Entry.the-variants.{Image, Tile, Size, Rect}
 use Rattle.plan.specs.declared.types.Copy.{Copy}
 use Rattle.plan.specs.declared.types.Strip.{Strip}
 use Rattle.object.specs.declared.types.Verdict.the-variants as verdict

@@ -2,9 +2,8 @@
 -- What can be negative is a ℤ. A natural difference stands for max(0, ·) only where the Rust tests or cuts the number at 0.
 -- Assumes nothing.
 use mathlib.Core.Bool.{Bool, true, false, cond, _||_}
-use mathlib.Core.List.{List, [], _∷_}
-use Prim.Native.Nat.{ℕ, zero, suc, _+_, _-_, _*_, _/_, _%_, _^_, min, max}
-use lib.Dec.{ltb, leb, eqb}
+use Prim.Native.Nat.{ℕ, zero, suc, _+_, _-_, _*_, _/_, _%_, _^_, min}
+use lib.Dec.{leb, eqb}
 use lib.IntN.{ℤ, pos, negℤ, _+ℤ_, _-ℤ_, _*ℤ_}
 use lib.Signed.{ltZ, leZ}
 use Rattle.signed.specs.Diff.{up}
@@ -15,7 +14,7 @@ use Rattle.object.specs.declared.types.ObjBg.{ObjBg}
 use Rattle.object.specs.Measure.{quarters, thirtySeconds, texels, ofTexels, edge, wholeTexels, ofRows, wholeRows, inImage, sampledBy, shownAt, linesAt, ofPosition, ofLines, whole, inQuarters, inThirtySeconds, extent, texelsWide, wordsWide, rowPart}
 use Rattle.plan.specs.declared.types.Entry.{Entry}
 use Rattle.plan.specs.Out.{Out, _>>=_, _>>_, yield, emit, refuse}
-use Rattle.plan.specs.declared.types.Entry.the-variants.{Image, Tile, Size, Load, Rect}
+use Rattle.plan.specs.declared.types.Entry.the-variants.{Image, Tile, Size, Rect}
 use Rattle.plan.specs.declared.types.Clip.{Clip}
 use Rattle.plan.specs.declared.types.Start.{Start}
 use Rattle.plan.specs.declared.types.Scaled.{Scaled}

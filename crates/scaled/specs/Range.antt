@@ -3,7 +3,6 @@
 use mathlib.Core.Bool.{Bool, true, false, cond}
 use mathlib.Core.Path.{_≡_}
 use Prim.Native.Nat.{ℕ, _^_, _≤_, _<_}
-use native.Mathlib.Omega.{arith}
 use lib.IntN.{ℤ, pos, negℤ}
 use lib.Signed.{_≤ℤ_}
 use mir.Syntax.{w32, w64}
@@ -14,7 +13,7 @@ use Rattle.object.specs.declared.types.ObjBg.{ObjBg}
 use Rattle.object.specs.declared.types.Quarters.{Quarters}
 use Rattle.object.specs.declared.types.Scissor.{Scissor}
 use Rattle.object.specs.Measure.{quarters, thirtySeconds, edge, inImage}
-use Rattle.object.specs.Range.{Below, Within, InRange, PassedScaled}
+use Rattle.object.specs.Range.{Below, InRange, PassedScaled}
 use Rattle.plan.specs.declared.types.Clip.{Clip}
 use Rattle.plan.specs.declared.types.Start.{Start}
 use Rattle.plan.specs.declared.types.Scaled.{Scaled}
@@ -107,5 +106,5 @@ chosen-in true h k = h
 chosen-in false h k = k
 
 -- a start in an image is near enough for the first strip
-pub near : {bg : ObjBg} {i : Start} → Usable bg → StartIn bg i → Near i
-near {bg} {i} u s = record { image-y = s .image-y; low = s .low; high = s .high }
+pub near : {bg : ObjBg} {i : Start} → StartIn bg i → Near i
+near s = record { image-y = s .image-y; low = s .low; high = s .high }

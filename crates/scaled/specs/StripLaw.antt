@@ -2,7 +2,7 @@
 -- Assumes nothing.
 use mathlib.Core.Bool.{false}
 use mathlib.Core.Path.{_≡_}
-use Prim.Native.Nat.{ℕ, _+_, _-_, _*_, _/_, _%_, _^_, _<_, _≤_}
+use Prim.Native.Nat.{ℕ, _+_, _-_, _*_, _/_, _%_, _^_, _≤_}
 use native.Mathlib.Omega.{arith}
 use native.Mathlib.Nat.{div-le-self, div-mul-le-self, le-div-iff-mul-le, mul-le-mul-left, mul-le-mul-right}
 use lib.Dec.{eqb, leb}

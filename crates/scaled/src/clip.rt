@@ -29,7 +29,8 @@ fn max_of(image: Quarters, scale: Scale) -> Quarters
     ensures { λ r. ⌜ (negℤ (pos 4) ≤ℤ r .0) × (r .0 ≤ℤ pos (2 ^ 26)) ⌝ }
 {
     let shown = object::shown_at(image, scale);
-    Quarters(signed::clear2(shown.0 - 1))
+    let less = shown.0 - 1;
+    Quarters(signed::clear2(less))
 }
 
 // What a frame wider than its image loses.

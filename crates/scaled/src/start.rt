@@ -1,8 +1,7 @@
 // Where the clipped frame starts in the image.
 ghost use mathlib.Core.Path.{_≡_};
 ghost use Prim.Native.Nat.{_+_, _/_, _%_, _≤_, _^_};
-ghost use lib.IntN.{pos, negℤ};
-ghost use lib.Signed.{_≤ℤ_};
+ghost use lib.IntN.{pos};
 ghost use Rattle.object.specs.Measure.{thirtySeconds, quarters, sampledBy, inThirtySeconds};
 ghost use Rattle.object.specs.Range.{Below, Within};
 ghost use Rattle.scaled.specs.Range.{Usable, Filled, StartIs};

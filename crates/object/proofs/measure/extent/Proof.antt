@@ -1,5 +1,4 @@
 -- `object::measure::extent` meets its contract: what `positive` gives is at most its argument, so that it fits.
-use Prim.Native.Nat.{_<_, _^_}
 use mathlib.Core.Path.{_≡_}
 use borrow.Author.Needs.{needs}
 use Rattle.signed.specs.Diff.{up, zarith}

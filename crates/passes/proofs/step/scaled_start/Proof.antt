@@ -1,14 +1,11 @@
 -- `passes::step::scaled_start` meets its contract: the first sum, and the walk before the first pass. Assumes nothing.
 use borrow.Author.Needs.{needs}
-use mathlib.Core.Path.{_≡_, refl, sym, ap, _∙_}
-use lib.Dec.{lit≤, lit<}
-use lib.IntN.{ℤ, pos, negℤ, _+ℤ_, _-ℤ_, _*ℤ_}
-use mir.Syntax.{w64}
-use mir.Val.{toZ, ofZ}
-use Rattle.signed.specs.Word.{rd, rdn, rk}
+use mathlib.Core.Path.{refl, _∙_}
+use lib.Dec.{lit≤}
+use Rattle.signed.specs.Word.{rdn, rk}
 use native.Mathlib.Omega.{arith}
-use Rattle.signed.specs.Diff.{up, dn, zdiff, zparts, zarith}
-use Prim.Native.Nat.{_+_, _*_, _/_, _≤_}
+use Rattle.signed.specs.Diff.{zarith}
+use Prim.Native.Nat.{_+_, _*_, _≤_}
 use native.Mathlib.Nat.{mul-le-mul}
 use Rattle.object.specs.Range.{Within}
 use Rattle.passes.specs.Comes.{read-in}

@@ -1,17 +1,14 @@
 -- `passes::walk::cut_rows` meets its contract: the test picks the definition's branch, and the smaller is chosen. Assumes nothing.
 use borrow.Author.Needs.{needs}
-use mathlib.Core.Path.{_≡_, refl, sym, ap, _∙_}
-use lib.Dec.{lit≤, lit<}
-use lib.IntN.{ℤ, pos, negℤ, _+ℤ_, _-ℤ_, _*ℤ_}
+use mathlib.Core.Path.{_≡_, sym, _∙_}
+use lib.Dec.{lit≤}
+use lib.IntN.{ℤ, pos, _+ℤ_, _*ℤ_}
 use mir.Syntax.{w64}
 use mir.Val.{toZ, ofZ}
 use Rattle.signed.specs.Word.{rd, rdn, rk}
-use native.Mathlib.Omega.{arith}
-use Rattle.signed.specs.Diff.{up, dn, zdiff, zparts, zarith}
 use Rattle.signed.specs.Floor.{floorDiv}
 use Rattle.object.specs.Range.{Within}
 use Rattle.passes.specs.Comes.{wider, times-in, floor-in, sum-in}
-use Rattle.passes.specs.Sound.{cutRows}
 use Rattle.passes.proofs.walk.cut_rows.Statement.{statement}
 use Rattle.passes.proofs.walk.cut_rows.Tie as tie
 

@@ -1,11 +1,9 @@
 -- `passes::walk::lines_due` meets its contract: a shift and a cut at 0. Assumes nothing.
 use borrow.Author.Needs.{needs}
-use mathlib.Core.Path.{_≡_, refl, sym, ap, _∙_}
-use lib.Dec.{lit≤, lit<}
-use Rattle.signed.specs.Word.{rd, rdn, rk}
+use mathlib.Core.Path.{ap, _∙_}
+use Rattle.signed.specs.Word.{rd, rk}
 use Rattle.passes.specs.Going.{due-low}
 use Rattle.signed.specs.Diff.{up}
-use Rattle.signed.specs.Floor.{floorDiv}
 use Rattle.passes.proofs.walk.lines_due.Statement.{statement}
 use Rattle.passes.proofs.walk.lines_due.Tie as tie
 

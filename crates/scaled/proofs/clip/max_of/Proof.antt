@@ -31,8 +31,8 @@ shown-reads c =
     let f : SFits w64 (pos (shown (c .before))) = omega zarith in
     rw (c .shown-at .ensures) (rd f)
 
-sub-clear2 : tie.Need-sub-clear2
-sub-clear2 c = let l = shown-le (c .before .before .before) in rw (shown-reads (c .before .before)) (simp zdiff (omega zarith))
+sub-less : tie.Need-sub-less
+sub-less c = let l = shown-le (c .before .before .before) in rw (shown-reads (c .before .before)) (simp zdiff (omega zarith))
 
 clear2-requires : tie.Need-clear2-requires
 clear2-requires c κs = search needs
@@ -42,8 +42,8 @@ unfolding greatest
 returns c =
     let a = c .before .before .before .before in
     let l = shown-le a in
-    let e = rk _ (c .clear2 .ok) ∙ rw (rd (sub-clear2 (c .before)), shown-reads (c .before .before .before)) at (c .clear2 .ensures) in
+    let e = rk _ (c .clear2 .ok) ∙ rw (rd (sub-less (c .before)), shown-reads (c .before .before .before)) at (c .clear2 .ensures) in
     (ap inQuarters e, rw e (cleared (pos (shown a) -ℤ pos 1) (simp zdiff (omega zarith)) (simp zdiff (omega zarith))))
 
 pub max-of-spec : {M : Type 1} → statement M
-max-of-spec = tie.close (tie.spec shown-at-requires sub-clear2 clear2-requires returns)
+max-of-spec = tie.close (tie.spec shown-at-requires sub-less clear2-requires returns)

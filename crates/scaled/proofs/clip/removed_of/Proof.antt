@@ -7,7 +7,6 @@ use mir.Syntax.{w64}
 use mir.Val.{SFits, toZ, ofZ}
 use Rattle.signed.specs.Diff.{ge-dn, zdiff, zparts, zarith}
 use Rattle.signed.specs.Word.{rd}
-use Rattle.object.specs.declared.types.Quarters.{Quarters}
 use Rattle.object.specs.Measure.{quarters, extent}
 use Rattle.object.specs.Range.{counted, below-read}
 use Rattle.scaled.specs.Clip.{greatest, removed}

@@ -1,7 +1,7 @@
 -- `scaled::clip::width_of` meets its contract. The difference is read back. Assumes nothing.
-use mathlib.Core.Path.{_≡_, ap, _∙_}
+use mathlib.Core.Path.{_≡_, ap}
 use lib.Dec.{lit≤}
-use lib.IntN.{pos, _-ℤ_}
+use lib.IntN.{_-ℤ_}
 use mir.Syntax.{w64}
 use mir.Val.{toZ, ofZ}
 use Rattle.signed.specs.Diff.{ge-dn, zdiff, zarith}

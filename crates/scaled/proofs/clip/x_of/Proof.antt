@@ -1,7 +1,7 @@
 -- `scaled::clip::x_of` meets its contract. The sum is read back. Assumes nothing.
 use mathlib.Core.Path.{_≡_, ap, _∙_}
 use lib.Dec.{lit≤}
-use lib.IntN.{pos, _+ℤ_}
+use lib.IntN.{_+ℤ_}
 use mir.Syntax.{w64}
 use mir.Val.{SFits, toZ, ofZ}
 use Rattle.signed.specs.Diff.{ge-dn, zdiff, zarith}

@@ -1,7 +1,7 @@
 -- `scaled::measure::sum` meets its contract. The numbers are read back, and their sum fits. Assumes nothing.
 use mathlib.Core.Path.{_≡_}
 use mir.Syntax.{w64}
-use mir.Val.{SFits, toZ, ofZ}
+use mir.Val.{toZ, ofZ}
 use lib.Dec.{lit≤}
 use Rattle.signed.specs.Diff.{zdiff, zarith}
 use Rattle.signed.specs.Word.{rd}

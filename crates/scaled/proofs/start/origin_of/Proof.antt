@@ -4,10 +4,10 @@ use lib.Dec.{lit≤}
 use lib.IntN.{_+ℤ_, _-ℤ_}
 use mir.Syntax.{w64}
 use mir.Val.{SFits, toZ, ofZ}
-use Rattle.signed.specs.Diff.{zdiff, zarith}
+use Rattle.signed.specs.Diff.{ge-dn, zdiff, zarith}
 use Rattle.signed.specs.Word.{rd}
 use Rattle.object.specs.Measure.{thirtySeconds, inThirtySeconds}
-use Rattle.object.specs.Range.{counted, below-read}
+use Rattle.object.specs.Range.{below-read}
 use Rattle.scaled.specs.Strip.{originOf}
 use Rattle.scaled.proofs.start.origin_of.Statement.{statement}
 use Rattle.scaled.proofs.start.origin_of.Tie as tie
@@ -31,7 +31,9 @@ returns : tie.Need-returns
 unfolding originOf
 returns c =
     let a = c .before .before .before .before .before .before in
-    let g : a .args .origin .0 +ℤ a .args .down .0 -ℤ a .args .back .0 ≡ originOf (a .args .origin .0) (thirtySeconds (a .args .down)) (thirtySeconds (a .args .back)) = rw (counted (a .pre .1 .0 .low), counted (a .pre .1 .1 .low)) in
+    let d = ge-dn (a .args .down .0) 0 (a .pre .1 .0 .low) in
+    let b = ge-dn (a .args .back .0) 0 (a .pre .1 .1 .low) in
+    let g : a .args .origin .0 +ℤ a .args .down .0 -ℤ a .args .back .0 ≡ originOf (a .args .origin .0) (thirtySeconds (a .args .down)) (thirtySeconds (a .args .back)) = simp zdiff (omega zarith) in
     rw (rd (sub-t5 c), rd (add-t4 (c .before .before)), origin-reads a, down-reads a, back-reads a) (ap inThirtySeconds g)
 
 pub origin-of-spec : {M : Type 1} → statement M

@@ -1,9 +1,7 @@
 -- `scaled::start::position_after` meets its contract. What the cut takes of the image is bounded, and the sum of two numbers that are not negative is theirs. Assumes nothing.
-use borrow.Author.Needs.{needs}
-use mathlib.Core.Path.{_≡_, ap, _∙_}
+use mathlib.Core.Path.{ap, _∙_}
 use Prim.Native.Nat.{_≤_, _*_}
 use native.Mathlib.Omega.{arith}
-use lib.IntN.{pos}
 use Rattle.signed.specs.Diff.{zarith}
 use Rattle.object.specs.Measure.{quarters, sampledBy, inThirtySeconds}
 use Rattle.object.specs.Range.{counted-sum}

@@ -2,7 +2,7 @@
 use borrow.Author.Needs.{needs}
 use mathlib.Core.Bool.{cond}
 use mathlib.Core.Path.{_≡_, sym, subst}
-use Prim.Native.Nat.{ℕ, _+_, _*_, _/_, _%_}
+use Prim.Native.Nat.{ℕ, _+_, _*_, _/_}
 use native.Mathlib.Omega.{arith}
 use lib.IntN.{pos}
 use Rattle.signed.specs.Diff.{zarith}
@@ -46,7 +46,7 @@ x-is : (c : tie.After-position-after) → c .position-after .result ≡ inThirty
 x-is c = rw (c .before .chosen .ensures) at (c .position-after .ensures .0)
 
 wraps-requires : tie.Need-wraps-requires
-wraps-requires c κs = let a = c .before .before .before .before in rw (c .before .before .before .in-image .ensures) (omega (arith, w-least (c .before .before .before .before .args .bg) (c .before .before .before .before .args .c) (c .before .before .before .before .pre .0) (c .before .before .before .before .pre .1)))
+wraps-requires c κs = rw (c .before .before .before .in-image .ensures) (omega (arith, w-least (c .before .before .before .before .args .bg) (c .before .before .before .before .args .c) (c .before .before .before .before .pre .0) (c .before .before .before .before .pre .1)))
 
 carry-is : (c : tie.After-wraps) → c .wraps .result ≡ x (c .before .before .before .before .before) / w (c .before .before .before .before .before)
 carry-is c = rw (x-is (c .before), c .before .before .before .before .in-image .ensures) at (c .wraps .ensures)

@@ -6,7 +6,6 @@ use native.Mathlib.Omega.{arith}
 use native.Mathlib.Nat.{div-le-self}
 use Rattle.scaled.specs.Range.{extent-le}
 use Rattle.scaled.specs.Strip.{lineOf}
-use Rattle.signed.specs.Diff.{zarith}
 use Rattle.scaled.proofs.strip.line_of.Statement.{statement}
 use Rattle.scaled.proofs.strip.line_of.Tie as tie
 

@@ -1,7 +1,6 @@
 -- `scaled::strip::max_slice_of` meets its contract. Each way decides the test. Assumes nothing.
 use borrow.Author.Needs.{needs}
 use borrow.Author.Tests.{eq-eqb, ne-eqb}
-use mathlib.Core.Path.{refl}
 use native.Mathlib.Omega.{arith}
 use Rattle.scaled.specs.Strip.{maxSlice}
 use Rattle.scaled.proofs.strip.max_slice_of.Statement.{statement}

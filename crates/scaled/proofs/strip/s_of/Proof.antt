@@ -1,7 +1,7 @@
 -- `scaled::strip::s_of` meets its contract. Each way reads back the numbers. Assumes nothing.
 use mathlib.Core.Path.{_≡_, ap}
 use lib.Dec.{lit≤}
-use lib.IntN.{pos, negℤ, _+ℤ_, _-ℤ_}
+use lib.IntN.{pos, _+ℤ_, _-ℤ_}
 use mir.Syntax.{w64}
 use mir.Val.{toZ, ofZ}
 use Rattle.signed.specs.Diff.{ge-dn, zdiff, zarith}
