@@ -2,9 +2,8 @@
 -- Assumes nothing.
 use mathlib.Core.Path.{_≡_, refl}
 use mathlib.Core.Bool.{Bool, true, false, cond, _||_, true≢false}
-use Prim.Native.Nat.{ℕ, _+_, _*_, _-_, _/_, _%_, _^_, _≤_, max}
+use Prim.Native.Nat.{ℕ, _+_, _-_, _/_, _%_, _^_, _≤_, max}
 use native.Mathlib.Omega.{arith}
-use borrow.Author.Tests.{eqb-false}
 use lib.Dec.{eqb}
 use lib.IntN.{ℤ, pos, _+ℤ_, _-ℤ_}
 use lib.Signed.{leZ, _≤ℤ_}
@@ -12,10 +11,10 @@ use Rattle.signed.specs.Bound.{some}
 use Rattle.signed.specs.Diff.{up, zdiff, zparts, zarith}
 use Rattle.signed.specs.Cast.{minZ}
 use Rattle.object.specs.declared.types.ObjBg.{ObjBg}
+use Rattle.object.specs.declared.types.Quarters.{Quarters}
 use Rattle.object.specs.declared.types.Scissor.{Scissor}
-use Rattle.object.specs.Measure.{quarters, thirtySeconds, texels, wholeTexels}
-use Rattle.object.specs.Range.{Within, PassedCopy}
-use Rattle.plan.specs.Request.{edge}
+use Rattle.object.specs.Measure.{quarters, thirtySeconds, texels, edge, wholeTexels, inQuarters}
+use Rattle.object.specs.Range.{Below, Within, PassedCopy}
 use Rattle.plan.specs.declared.types.Copy.{Copy}
 use Rattle.plan.specs.Copy.{copyCapacity, copyOf, copyEmpty}
 use Rattle.plan.specs.Sound.{SoundCopy}
@@ -29,13 +28,22 @@ pub record AtMost (x m r : ℕ) : Type 0 where
 -- R 434–439, 461–463: an axis of the frame between two edges of the scissor, as `copyOf` has it for x and for y
 unfoldable pub axisOf : (frame : ℤ) (size low high : ℕ) → Axis
 axisOf frame size low high =
-    let edge = max (up frame) (low * 4) in
-    let far = minZ (frame +ℤ pos size) (pos (high * 4)) in
-    record { edge = edge; cells = texels (up (far -ℤ pos edge)); skip = texels (up (pos edge -ℤ frame)) }
+    let edge = max (up frame) low in
+    let far = minZ (frame +ℤ pos size) (pos high) in
+    record { edge = inQuarters (pos edge); cells = texels (up (far -ℤ pos edge)); skip = texels (up (pos edge -ℤ frame)) }
 
 pub record AxisIs (frame : ℤ) (size low high : ℕ) (r : Axis) : Type 0 where
   pub is : r ≡ axisOf frame size low high
   pub skip : r .skip ≤ 16383
+
+-- an axis from its parts
+pub axis-is : (frame : ℤ) (size low high : ℕ) {e : Quarters} {cells skip : ℕ}
+    → e ≡ inQuarters (pos (max (up frame) low))
+    → cells ≡ texels (up (minZ (frame +ℤ pos size) (pos high) -ℤ e .0))
+    → AtMost (texels (up (e .0 -ℤ frame))) 16383 skip
+    → AxisIs frame size low high (record { edge = e; cells = cells; skip = skip })
+unfolding axisOf
+axis-is frame size low high p q r = record { is = rw (q, r .is, p); skip = r .most }
 
 -- the frame's numbers; and their ranges, unless the frame is empty
 pub record CopyIs (bg : ObjBg) (s : Scissor) (address : ℕ) (r : Copy) : Type 0 where
@@ -56,19 +64,19 @@ skip-in e frame w = simp zdiff (simp zparts (omega zarith))
 
 -- what holds of an axis with a cell in it
 record AxisIn (r : Axis) : Type 0 where
-  pub edge : r .edge ≤ 4092
+  pub edge : Below 12 (r .edge .0)
   pub cells : r .cells ≤ 1023
   pub skip : r .skip ≤ 16383
 
-axis-in : (frame : ℤ) (size low high : ℕ) → Within 15 frame → low ≤ 1023 → high ≤ 1023 → 1 ≤ axisOf frame size low high .cells → AxisIn (axisOf frame size low high)
+axis-in : (frame : ℤ) (size low high : ℕ) → Within 15 frame → low ≤ 4092 → high ≤ 4092 → 1 ≤ axisOf frame size low high .cells → AxisIn (axisOf frame size low high)
 unfolding axisOf
 axis-in frame size low high w l h some =
-    let far = minZ (frame +ℤ pos size) (pos (high * 4)) in
-    let edge = max (up frame) (low * 4) in
-    let f : far ≤ℤ pos (high * 4) = far-in (leZ (frame +ℤ pos size) (pos (high * 4))) (frame +ℤ pos size) (high * 4) refl in
-    let c = cells-in far (high * 4) edge f in
+    let far = minZ (frame +ℤ pos size) (pos high) in
+    let edge = max (up frame) low in
+    let f : far ≤ℤ pos high = far-in (leZ (frame +ℤ pos size) (pos high)) (frame +ℤ pos size) high refl in
+    let c = cells-in far high edge f in
     let s = skip-in edge frame w in
-    record { edge = omega arith; cells = omega arith; skip = omega arith }
+    record { edge = record { low = omega zarith; high = omega zarith }; cells = omega arith; skip = omega arith }
 
 or-false : (a b : Bool) → a || b ≡ false → (a ≡ false) × (b ≡ false)
 or-false true b e = absurd (true≢false e)
@@ -123,7 +131,8 @@ pub copy-is : (bg : ObjBg) (s : Scissor) (address : ℕ) {x y : Axis} {palette r
     → cells ≡ texels (quarters (bg .«frame_w»))
     → source ≡ wholeTexels (thirtySeconds (bg .«image_x»))
     → row ≡ wholeTexels (thirtySeconds (bg .«image_y»))
-    → AtMost (bg .«tmem_h» / 4) 16383 rows
+    → rows ≡ texels (bg .«tmem_h»)
+    → rows ≤ 16383
     → palette ≡ bg .«image_pal» % 2 ^ 8
     → capacity ≡ copyCapacity (bg .«image_fmt») (bg .«image_siz»)
     → texels′ ≡ 16 / 2 ^ bg .«image_siz»
@@ -149,5 +158,5 @@ pub copy-is : (bg : ObjBg) (s : Scissor) (address : ℕ) {x y : Axis} {palette r
       «texels_per_word» = texels′;
     })
 unfolding copyOf axisOf
-copy-is bg s address p ax ay w h f sx sy r e q t =
-    ranged bg s address p (omega arith) (rw (ax .is, ay .is, w, h, f, sx, sy, r .is, e, q, t))
+copy-is bg s address p ax ay w h f sx sy r m e q t =
+    ranged bg s address p (omega arith) (rw (ax .is, ay .is, w, h, f, sx, sy, r, e, q, t))

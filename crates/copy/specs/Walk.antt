@@ -5,9 +5,10 @@ use mathlib.Core.Bool.{Bool, true, false, cond}
 use mathlib.Core.List.{[], _∷_}
 use Prim.Native.Nat.{ℕ, _+_, _-_, _*_, _%_, _^_, _<_}
 use lib.Dec.{ltb}
-use lib.IntN.{ℤ, pos, negℤ, _*ℤ_}
+use lib.IntN.{ℤ, pos, negℤ}
 use Rattle.signed.specs.Cast.{i16}
 use Rattle.object.specs.declared.types.Verdict.the-variants as verdict
+use Rattle.object.specs.Measure.{quarters, ofTexels, rowsHigh}
 use Rattle.tile.specs.declared.load.LoadRequest.{LoadRequest}
 use Rattle.tile.specs.declared.load.LoadRequest.the-variants as request
 use Rattle.tile.specs.Load.{requestOf}
@@ -102,12 +103,12 @@ requestIn c a = requestOf (c .siz) (field c) (c .address) (a .uls) (a .ult) (a .
 
 -- R 531 `if flip { -load_width } else { offset } * 32`
 abbrev pub firstTexel : Bool → (load-width offset : ℕ) → ℤ
-firstTexel flip load-width offset = i16 (cond flip (negℤ (pos load-width)) (pos offset) *ℤ pos 32)
+firstTexel flip load-width offset = i16 (rowsHigh (cond flip (negℤ (pos load-width)) (pos offset)) .0)
 
 abbrev pub rectEntry : Place → Entry
 rectEntry p =
-    entry.Rect 0 (p .copy .left + p .x * 4) (p .copy .top + p .y * 4) (p .copy .left + (p .x + p .strip .«strip_width» - 1) * 4)
-    (p .copy .top + (p .y + p .«strip_height» - 1) * 4)
+    entry.Rect 0 (quarters (p .copy .left) + ofTexels (p .x)) (quarters (p .copy .top) + ofTexels (p .y)) (quarters (p .copy .left) + ofTexels (p .x + p .strip .«strip_width» - 1))
+    (quarters (p .copy .top) + ofTexels (p .y + p .«strip_height» - 1))
     (firstTexel (p .copy .flip) (p .strip .«load_width») (p .strip .offset)) (pos 0) (pos 0x1000) (pos 0x400) (p .sy)
 
 -- what is given before a strip is found

@@ -1,12 +1,11 @@
-// The frame of a copy plan: clipped by the scissor, in cells of 4 units, and where it starts in the image.
+// The frame of a copy plan: clipped by the scissor, in cells of 4 quarters, and where it starts in the image.
 ghost use mathlib.Core.Path.{_≡_};
-ghost use Prim.Native.Nat.{_*_, _/_, _^_, _≤_, max};
+ghost use Prim.Native.Nat.{_/_, _^_, _≤_, max};
 ghost use lib.IntN.{pos, _+ℤ_, _-ℤ_};
 ghost use Rattle.signed.specs.Diff.{up};
 ghost use Rattle.signed.specs.Cast.{minZ};
-ghost use Rattle.object.specs.Measure.{quarters, texels};
+ghost use Rattle.object.specs.Measure.{quarters, texels, edge, inQuarters};
 ghost use Rattle.object.specs.Range.{Below, Within, PassedCopy};
-ghost use Rattle.plan.specs.Request.{edge};
 ghost use Rattle.plan.specs.Copy.{copyEmpty};
 ghost use Rattle.copy.specs.Frame.{AtMost, AxisIs, CopyIs};
 use crate::types::Axis;
@@ -15,46 +14,34 @@ use object::Quarters;
 use object::Scissor;
 use plan::Copy;
 
-// A scissor edge in units.
-fn edge_of(z: i32) -> u64
-    requires { ⌜ Below 10 z ⌝ }
-    ensures { λ r. ⌜ AtMost (edge z * 4) 4092 r ⌝ }
+// The frame's near edge: its own, or the scissor's.
+fn near(frame: Quarters, low: Quarters) -> Quarters
+    requires { ⌜ (Within 15 (frame .0)) × Below 12 (low .0) ⌝ }
+    ensures { λ r. ⌜ (r ≡ inQuarters (pos (max (quarters frame) (quarters low)))) × Below 15 (r .0) ⌝ }
 {
-    signed::positive(z as i64) * 4
-}
-
-// The frame's near edge.
-fn near(frame: i64, low: u64) -> u64
-    requires { ⌜ Within 15 frame ⌝ }
-    requires { ⌜ low ≤ 4092 ⌝ }
-    ensures { λ r. ⌜ AtMost (max (up frame) low) 32767 r ⌝ }
-{
-    signed::most(signed::positive(frame), low)
+    if frame.0 <= low.0 { low } else { frame }
 }
 
 // The cells from the near edge to the far one, which is the frame's or the scissor's.
-fn cells_in(frame: i64, size: u64, high: u64, near: u64) -> u64
-    requires { ⌜ Within 15 frame ⌝ }
-    requires { ⌜ (size ≤ 65535) × (high ≤ 4092) × (near ≤ 32767) ⌝ }
-    ensures { λ r. ⌜ r ≡ texels (up (minZ (frame +ℤ pos size) (pos high) -ℤ pos near)) ⌝ }
+fn cells_in(frame: Quarters, size: Quarters, high: Quarters, near: Quarters) -> u64
+    requires { ⌜ (Within 15 (frame .0)) × Below 16 (size .0) ⌝ }
+    requires { ⌜ (Below 12 (high .0)) × Below 15 (near .0) ⌝ }
+    ensures { λ r. ⌜ r ≡ texels (up (minZ (frame .0 +ℤ size .0) (high .0) -ℤ near .0)) ⌝ }
 {
-    let end = frame + size as i64;
-    let scissor = high as i64;
-    let start = near as i64;
-    if end <= scissor {
-        signed::positive(end - start) / 4
+    let end = frame.0 + size.0;
+    if end <= high.0 {
+        object::texels(Quarters(end - near.0))
     } else {
-        signed::positive(scissor - start) / 4
+        object::texels(Quarters(high.0 - near.0))
     }
 }
 
 // The cells of the frame before the near edge.
-fn cells_before(frame: i64, near: u64) -> u64
-    requires { ⌜ Within 15 frame ⌝ }
-    requires { ⌜ near ≤ 32767 ⌝ }
-    ensures { λ r. ⌜ AtMost (texels (up (pos near -ℤ frame))) 16383 r ⌝ }
+fn cells_before(frame: Quarters, near: Quarters) -> u64
+    requires { ⌜ (Within 15 (frame .0)) × Below 15 (near .0) ⌝ }
+    ensures { λ r. ⌜ AtMost (texels (up (near .0 -ℤ frame .0))) 16383 r ⌝ }
 {
-    signed::positive(near as i64 - frame) / 4
+    object::texels(Quarters(near.0 - frame.0))
 }
 
 fn axis_of(frame: Quarters, size: Quarters, low: i32, high: i32) -> Axis
@@ -62,9 +49,9 @@ fn axis_of(frame: Quarters, size: Quarters, low: i32, high: i32) -> Axis
     requires { ⌜ (Below 10 low) × (Below 10 high) ⌝ }
     ensures { λ r. ⌜ AxisIs (frame .0) (quarters size) (edge low) (edge high) r ⌝ }
 {
-    let edge = near(frame.0, edge_of(low));
-    let cells = cells_in(frame.0, object::quarters(size), edge_of(high), edge);
-    let skip = cells_before(frame.0, edge);
+    let edge = near(frame, object::edge(low));
+    let cells = cells_in(frame, size, object::edge(high), edge);
+    let skip = cells_before(frame, edge);
     Axis { edge, cells, skip }
 }
 
@@ -81,13 +68,6 @@ fn texels_per_word(siz: u8) -> u64
     }
 }
 
-// The lines that texture memory holds.
-fn rows_in(tmem_h: u16) -> u64
-    ensures { λ r. ⌜ AtMost («tmem_h» / 4) 16383 r ⌝ }
-{
-    (tmem_h / 4) as u64
-}
-
 pub fn copy_of(bg: ObjBg, scissor: Scissor, address: u64) -> Copy
     requires { ⌜ PassedCopy bg scissor ⌝ }
     ensures { λ r. ⌜ CopyIs bg scissor address r ⌝ }
@@ -102,7 +82,9 @@ pub fn copy_of(bg: ObjBg, scissor: Scissor, address: u64) -> Copy
     let capacity = capacity::copy_capacity(bg.image_fmt, bg.image_siz);
     let texels_per_word = texels_per_word(bg.image_siz);
     let palette = signed::low8(bg.image_pal);
-    let rows = rows_in(bg.tmem_h);
+    let rows = object::strip_lines(bg.tmem_h);
+    let left = across.edge;
+    let top = down.edge;
     Copy {
         fmt: bg.image_fmt as u64,
         siz: bg.image_siz as u64,
@@ -113,8 +95,8 @@ pub fn copy_of(bg: ObjBg, scissor: Scissor, address: u64) -> Copy
         image_width,
         image_height,
         frame_cells,
-        left: across.edge,
-        top: down.edge,
+        left,
+        top,
         width: across.cells,
         height: down.cells,
         source_x,

@@ -1,11 +1,12 @@
 // Where a copy walk stands, and what one step of it answers.
+use object::Quarters;
 use plan::Copy;
 use plan::Entry;
 use plan::Strip;
 
-// One axis of the frame clipped by the scissor: the near edge in units, the cells inside, and the cells cut off before them.
+// One axis of the frame clipped by the scissor: the near edge, the cells inside, and the cells cut off before them.
 pub struct Axis {
-    pub edge: u64,
+    pub edge: Quarters,
     pub cells: u64,
     pub skip: u64,
 }

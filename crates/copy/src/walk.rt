@@ -1,6 +1,8 @@
 // The copy walk, one entry a step: the texture image, then a strip's five entries, strip after strip.
 ghost use mathlib.Core.Path.{_≡_};
-ghost use Prim.Native.Nat.{_+_, _-_, _*_, _%_, _^_, _≤_, _<_};
+ghost use Prim.Native.Nat.{_+_, _-_, _%_, _^_, _≤_, _<_};
+ghost use Rattle.object.specs.Measure.{quarters, ofTexels};
+ghost use Rattle.object.specs.Range.{Below};
 ghost use Rattle.plan.specs.Copy.{field, bound};
 ghost use Rattle.plan.specs.Sound.{SoundCopy};
 ghost use Rattle.copy.specs.Walk.{placeAt, startAt, SoundPlace, soundAt, imageEntry, tileEntry, tile0Entry, sizeEntry, areaOf, requestIn, firstTexel, rectEntry, dueEntry, tooBig, loadNext, copyNextOf};
@@ -13,6 +15,7 @@ use crate::types::CopyNext;
 use crate::types::Due;
 use crate::types::Place;
 use crate::types::Stage;
+use object::Quarters;
 use plan::Copy;
 use plan::Entry;
 use plan::Strip;
@@ -113,7 +116,8 @@ fn bound_of(texels: u64) -> u16
     requires { ⌜ texels ≤ 65535 ⌝ }
     ensures { λ r. ⌜ r ≡ bound texels ⌝ }
 {
-    (texels * 4 % 65536) as u16
+    let q = object::of_texels(texels as i64);
+    signed::low16(q.0)
 }
 
 fn size_entry(p: Place) -> Entry
@@ -150,35 +154,37 @@ fn first_texel(flip: bool, load_width: u64, offset: u64) -> i64
     ensures { λ r. ⌜ r ≡ firstTexel flip «load_width» offset ⌝ }
 {
     if flip {
-        signed::wide(signed::signed16(-(load_width as i64) * 32))
+        let s = object::of_rows(-(load_width as i64));
+        signed::wide(signed::signed16(s.0))
     } else {
-        signed::wide(signed::signed16(offset as i64 * 32))
+        let s = object::of_rows(offset as i64);
+        signed::wide(signed::signed16(s.0))
     }
 }
 
-// The last of a number of cells, which the rectangle includes, in units.
-fn last_of(edge: u64, first: u64, count: u64) -> u64
-    requires { ⌜ (edge ≤ 4092) × (1 ≤ count) × (first + count ≤ 1023) ⌝ }
-    ensures { λ r. ⌜ r ≡ edge + (first + count - 1) * 4 ⌝ }
+// Where a cell lies that is a number of cells after an edge.
+fn cell_at(edge: Quarters, cells: u64) -> u64
+    requires { ⌜ (Below 12 (edge .0)) × (cells ≤ 1023) ⌝ }
+    ensures { λ r. ⌜ r ≡ quarters edge + ofTexels cells ⌝ }
 {
-    edge + (first + count - 1) * 4
+    let after = object::of_texels(cells as i64);
+    (edge.0 + after.0) as u64
 }
 
+// The ends are the last cells, which the rectangle includes.
 fn rect_entry(p: Place) -> Entry
     requires { ⌜ SoundPlace p ⌝ }
     ensures { λ r. ⌜ r ≡ rectEntry p ⌝ }
 {
     let c = p.copy;
     let s = p.strip;
-    let lrx = last_of(c.left, p.x, s.strip_width);
-    let lry = last_of(c.top, p.y, p.strip_height);
     let uls = first_texel(c.flip, s.load_width, s.offset);
     Entry::Rect {
         tile: 0,
-        ulx: c.left + p.x * 4,
-        uly: c.top + p.y * 4,
-        lrx,
-        lry,
+        ulx: cell_at(c.left, p.x),
+        uly: cell_at(c.top, p.y),
+        lrx: cell_at(c.left, p.x + s.strip_width - 1),
+        lry: cell_at(c.top, p.y + p.strip_height - 1),
         uls,
         ult: 0,
         dsdx: 0x1000,

@@ -11,6 +11,7 @@ use lib.Signed.{leZ}
 use Rattle.signed.specs.Diff.{zdiff, zarith}
 use Rattle.signed.specs.Floor.{floorDiv, modulo, floor-mod}
 use Rattle.signed.specs.Cast.{clearLow}
+use Rattle.object.specs.Measure.{inThirtySeconds, rowPart}
 use Rattle.plan.specs.declared.types.Clip.{Clip}
 use Rattle.plan.specs.declared.types.Start.{Start}
 use Rattle.plan.specs.declared.types.Scaled.{Scaled}
@@ -24,12 +25,12 @@ use Rattle.drift.specs.Walk.{rowAt, Fixed, At}
 -- k0 is `slice`, l the lines from the origin to the start, hid those of them in the first strip
 pub record FirstIs (z : Scaled) (i : Start) (f : First) (k0 l hid : ℕ) : Type 0 where
   pub slice : f .slice ≡ pos k0
-  pub hidden : f .«image_hidden» ≡ pos (hid * z .«scale_h»)
+  pub hidden : f .«image_hidden» ≡ pos (hid * z .«scale_h» .0)
   pub enough : 1024 * l ≤ z .«frame_rows» * suc k0
   pub count : f .count ≡ pos (z .«frame_rows» * suc k0 - 1024 * l)
-  pub t : f .t ≡ hid * z .«scale_h» / 32 % 32
-  pub slice-rows : f .«slice_rows» ≡ pos (z .«image_rows») -ℤ pos (hid * z .«scale_h» / 1024)
-  pub image-row : f .«image_row» ≡ modulo (pos (z .«image_rows») *ℤ pos k0 +ℤ floorDiv (i .origin) 32 +ℤ pos (hid * z .«scale_h» / 1024)) (z .«source_rows»)
+  pub t : f .t ≡ inThirtySeconds (pos (hid * z .«scale_h» .0 / 32 % 32))
+  pub slice-rows : f .«slice_rows» ≡ pos (z .«image_rows») -ℤ pos (hid * z .«scale_h» .0 / 1024)
+  pub image-row : f .«image_row» ≡ modulo (pos (z .«image_rows») *ℤ pos k0 +ℤ floorDiv (i .origin .0) 32 +ℤ pos (hid * z .«scale_h» .0 / 1024)) (z .«source_rows»)
   pub split : hid + z .«frame_rows» * k0 / 1024 ≡ l
 
 -- the first strip's numbers as functions of the distance from the origin
@@ -73,24 +74,24 @@ module _ (h f dist : ℕ) (some : 0 < f) where
       by : (l g g′ : ℕ) → g ≤ 1024 * l → 1024 * l ≤ g′ → g′ ≡ g + f → pos (g % 1024) +ℤ pos f -ℤ (pos (l * 1024) -ℤ pos (g / 1024 * 1024)) ≡ pos (g′ - 1024 * l)
       by l g g′ b c e = simp zdiff (omega zarith)
 
-pub first-is : (z : Scaled) (i : Start) (dist : ℕ) (some : 0 < z .«frame_rows») → pos (i .«image_y») -ℤ i .origin ≡ pos dist
-    → FirstIs z i (firstOf z i) (sliceOf (z .«scale_h») (z .«frame_rows») dist some) (lineOf (z .«scale_h») (z .«frame_rows») dist some) (aboveOf (z .«scale_h») (z .«frame_rows») dist some)
+pub first-is : (z : Scaled) (i : Start) (dist : ℕ) (some : 0 < z .«frame_rows») → i .«image_y» .0 -ℤ i .origin .0 ≡ pos dist
+    → FirstIs z i (firstOf z i) (sliceOf (z .«scale_h» .0) (z .«frame_rows») dist some) (lineOf (z .«scale_h» .0) (z .«frame_rows») dist some) (aboveOf (z .«scale_h» .0) (z .«frame_rows») dist some)
 unfolding firstOf
 first-is z i dist some e =
-    let h = z .«scale_h» in
+    let h = z .«scale_h» .0 in
     let f = z .«frame_rows» in
-    let hid = aboveOf (z .«scale_h») (z .«frame_rows») dist some in
-    let s : sliceAt h f (pos (i .«image_y») -ℤ i .origin) ≡ pos (sliceOf h f dist some) = ap (sliceAt h f) e in
-    let g : hiddenAt h f (pos (i .«image_y») -ℤ i .origin) ≡ pos (hid * 1024) = ap (hiddenAt h f) e ∙ hidden-is h f dist some in
-    let m : floorDiv (hiddenAt h f (pos (i .«image_y») -ℤ i .origin)) 1024 *ℤ pos h ≡ pos (hid * h) = ap (λ (u : ℤ). floorDiv u 1024 *ℤ pos h) g ∙ ap (λ (n : ℕ). pos (n * h)) (whole hid) in
+    let hid = aboveOf (z .«scale_h» .0) (z .«frame_rows») dist some in
+    let s : sliceAt h f (i .«image_y» .0 -ℤ i .origin .0) ≡ pos (sliceOf h f dist some) = ap (sliceAt h f) e in
+    let g : hiddenAt h f (i .«image_y» .0 -ℤ i .origin .0) ≡ pos (hid * 1024) = ap (hiddenAt h f) e ∙ hidden-is h f dist some in
+    let m : floorDiv (hiddenAt h f (i .«image_y» .0 -ℤ i .origin .0)) 1024 *ℤ pos h ≡ pos (hid * h) = ap (λ (u : ℤ). floorDiv u 1024 *ℤ pos h) g ∙ ap (λ (n : ℕ). pos (n * h)) (whole hid) in
     record {
       slice = s;
       hidden = m;
       enough = beyond-start h f dist some;
       count = ap (countAt h f) e ∙ count-is h f dist some;
-      t = ap (λ (u : ℤ). modulo (floorDiv u 32) 32) m;
+      t = ap rowPart m;
       slice-rows = ap (λ (u : ℤ). pos (z .«image_rows») -ℤ floorDiv u 1024) m;
-      image-row = ap (λ (u : ℤ). modulo (pos (z .«image_rows») *ℤ u +ℤ floorDiv (i .origin) 32 +ℤ floorDiv (floorDiv (hiddenAt h f (pos (i .«image_y») -ℤ i .origin)) 1024 *ℤ pos h) 1024) (z .«source_rows»)) s ∙ ap (λ (u : ℤ). modulo (pos (z .«image_rows») *ℤ pos (sliceOf h f dist some) +ℤ floorDiv (i .origin) 32 +ℤ floorDiv u 1024) (z .«source_rows»)) m;
+      image-row = ap (λ (u : ℤ). modulo (pos (z .«image_rows») *ℤ u +ℤ floorDiv (i .origin .0) 32 +ℤ floorDiv (floorDiv (hiddenAt h f (i .«image_y» .0 -ℤ i .origin .0)) 1024 *ℤ pos h) 1024) (z .«source_rows»)) s ∙ ap (λ (u : ℤ). modulo (pos (z .«image_rows») *ℤ pos (sliceOf h f dist some) +ℤ floorDiv (i .origin .0) 32 +ℤ floorDiv u 1024) (z .«source_rows»)) m;
       split = split-is h f dist some;
     }
   where
@@ -101,7 +102,7 @@ first-is z i dist some e =
 abbrev pub driftAt : Scaled → First → (image-h carry lines start : ℕ) → (origin : ℤ) → Drift
 driftAt z f image-h carry lines start origin =
     record {
-      h = z .«scale_h»;
+      h = z .«scale_h» .0;
       image-h = image-h;
       source-rows = z .«source_rows»;
       image-rows = z .«image_rows»;
@@ -120,11 +121,11 @@ itself k s e = rw e (le-leb k k (omega arith))
 
 -- the first strip's row before the remainder
 pub first-row : (z : Scaled) (i : Start) (f : First) (k0 l hid image-h carry lines start : ℕ) (origin : ℤ) → FirstIs z i f k0 l hid
-    → rowAt (driftAt z f image-h carry lines start origin) (pos k0) ≡ pos (z .«image_rows» * k0) +ℤ floorDiv origin 32 +ℤ pos carry +ℤ pos (hid * z .«scale_h» / 1024)
+    → rowAt (driftAt z f image-h carry lines start origin) (pos k0) ≡ pos (z .«image_rows» * k0) +ℤ floorDiv origin 32 +ℤ pos carry +ℤ pos (hid * z .«scale_h» .0 / 1024)
 first-row z i f k0 l hid image-h carry lines start origin g = by (pos (z .«image_rows» * k0) +ℤ floorDiv origin 32 +ℤ pos carry) (leZ (pos k0) (f .slice)) (itself k0 (f .slice) (g .slice))
   where
-    by : (a : ℤ) (t : Bool) → t ≡ true → a +ℤ cond t (floorDiv (f .«image_hidden») 1024) (pos 0) ≡ a +ℤ pos (hid * z .«scale_h» / 1024)
-    by a t e = subst (λ (u : Bool). a +ℤ cond u (floorDiv (f .«image_hidden») 1024) (pos 0) ≡ a +ℤ pos (hid * z .«scale_h» / 1024)) (sym e) (ap (λ (u : ℤ). a +ℤ floorDiv u 1024) (g .hidden))
+    by : (a : ℤ) (t : Bool) → t ≡ true → a +ℤ cond t (floorDiv (f .«image_hidden») 1024) (pos 0) ≡ a +ℤ pos (hid * z .«scale_h» .0 / 1024)
+    by a t e = subst (λ (u : Bool). a +ℤ cond u (floorDiv (f .«image_hidden») 1024) (pos 0) ≡ a +ℤ pos (hid * z .«scale_h» .0 / 1024)) (sym e) (ap (λ (u : ℤ). a +ℤ floorDiv u 1024) (g .hidden))
 
 -- what is left over: rows and t hold the hidden part but for less than 32
 parted : (x : ℕ) → x ≤ 1024 * (x / 1024) + 32 * (x / 32 % 32) + 31
@@ -136,10 +137,10 @@ held x = omega arith
 -- the walk before the first pass is in the closed form; whole images in the origin do not matter
 pub first-at : (z : Scaled) (i : Start) (c : Clip) (f : First) (p k0 l hid image-h carry lines start rho e wrap : ℕ) (origin : ℤ) → FirstIs z i f k0 l hid
     → Fixed (driftAt z f image-h carry lines start origin) z k0 l rho e
-    → floorDiv (i .origin) 32 ≡ floorDiv origin 32 +ℤ pos carry -ℤ pos wrap *ℤ pos (z .«source_rows»)
-    → At (driftAt z f image-h carry lines start origin) z k0 l (firstPass z c f p) k0 0 (z .«frame_rows» * suc k0 - 1024 * l) (1024 * (hid * z .«scale_h» / 1024) + 32 * (hid * z .«scale_h» / 32 % 32))
+    → floorDiv (i .origin .0) 32 ≡ floorDiv origin 32 +ℤ pos carry -ℤ pos wrap *ℤ pos (z .«source_rows»)
+    → At (driftAt z f image-h carry lines start origin) z k0 l (firstPass z c f p) k0 0 (z .«frame_rows» * suc k0 - 1024 * l) (1024 * (hid * z .«scale_h» .0 / 1024) + 32 * (hid * z .«scale_h» .0 / 32 % 32))
 first-at z i c f p k0 l hid image-h carry lines start rho e wrap origin g x o =
-    let h = z .«scale_h» in
+    let h = z .«scale_h» .0 in
     let fr = z .«frame_rows» in
     let row = first-row z i f k0 l hid image-h carry lines start origin g in
     let ahead : h * (fr * k0 / 1024) ≤ 1024 * (z .«image_rows» * k0) = Core.behind fr h e (fr * k0 % 1024) (fr * k0 / 1024) k0 (z .«image_rows») (x .frame) (omega arith) in
@@ -149,9 +150,9 @@ first-at z i c f p k0 l hid image-h carry lines start rho e wrap origin g x o =
       late = omega arith;
       count = g .count;
       lines = omega (arith, g .enough);
-      row = start-row (f .«image_row») (z .«source_rows») (rowAt (driftAt z f image-h carry lines start origin) (pos k0)) (pos (z .«image_rows» * k0)) (floorDiv (i .origin) 32) (floorDiv origin 32) (pos carry) (pos (hid * h / 1024)) (x .some) (g .image-row) row o;
+      row = start-row (f .«image_row») (z .«source_rows») (rowAt (driftAt z f image-h carry lines start origin) (pos k0)) (pos (z .«image_rows» * k0)) (floorDiv (i .origin .0) 32) (floorDiv origin 32) (pos carry) (pos (hid * h / 1024)) (x .some) (g .image-row) row o;
       rows = rw (row, g .slice-rows) (first-rows (floorDiv origin 32) (pos carry) (z .«image_rows») k0 (pos (hid * h / 1024)));
-      t = rw (g .t) (omega arith);
+      t = rw (g .t) (record { low = omega zarith; high = omega zarith });
       sampled = rw (row, g .t) (first-sampled (floorDiv origin 32) (pos carry) (pos (z .«image_rows» * k0)) (hid * h / 1024) (hid * h / 32 % 32));
       behind = omega (arith, parted (hid * h));
       before = omega (arith, held (hid * h));

@@ -7,9 +7,10 @@ use native.Mathlib.Nat.{mod-eq-of-lt}
 use lib.IntN.{ℤ, pos, _+ℤ_, _-ℤ_, _*ℤ_}
 use mir.Syntax.{w16}
 use mir.ValLaws.{toZ-pos}
-use Rattle.signed.specs.Diff.{zdiff, zarith}
+use Rattle.signed.specs.Diff.{up, zdiff, zarith}
 use Rattle.signed.specs.Floor.{floorDiv, modulo, floor-mod, floor-unique, modulo-lt}
 use Rattle.signed.specs.Cast.{i16}
+use Rattle.object.specs.Range.{Below, counted}
 use Rattle.drift.specs.Plain.{NearBy}
 
 -- a line of strip k is d = 1,024 R k + v − h S − ρ − 32 × om, om what the origin has below a whole row, with v = 1,024 × the first strip's rows + 32 × t
@@ -30,8 +31,11 @@ pub near : (h s rho rr k v om : ℕ) → rho < h → h * s ≤ 1024 * (rr * k) +
 near h s rho rr k v om el b f = record { behind = simp zdiff (omega zarith); before = simp zdiff (omega zarith) }
 
 -- a `t` below 32 is its own cast to 16 bits
-pub small : (t : ℕ) → t < 32 → i16 (pos t) ≡ pos t
+small : (t : ℕ) → t < 32 → i16 (pos t) ≡ pos t
 small t h = rw (mod-eq-of-lt {n = t} {m = 2 ^ 16} (omega arith)) (toZ-pos w16 t (omega arith))
+
+pub small-at : (t : ℤ) → Below 5 t → i16 t ≡ pos (up t)
+small-at t h = ap i16 (sym (counted (h .low))) ∙ small (up t) (omega zarith)
 
 -- a remainder does not change by whole images
 pub same-rest : (x y m : ℤ) (n : ℕ) → 0 < n → x ≡ y +ℤ m *ℤ pos n → modulo x n ≡ modulo y n

@@ -16,6 +16,7 @@ use Rattle.object.specs.declared.types.ObjBg.{ObjBg}
 use Rattle.object.specs.declared.types.Verdict.{Verdict}
 use Rattle.object.specs.declared.types.Verdict.the-variants as verdict
 use Rattle.object.specs.declared.types.Checked.{Checked}
+use Rattle.object.specs.Measure.{quarters, texels}
 use Rattle.object.specs.Layout.{Bytes, decode}
 use Rattle.object.specs.Check.{verdictNumber}
 use Rattle.object.specs.Passed.{decode-range}
@@ -181,25 +182,25 @@ count-rest h f u some =
 
 pub first-natural : (z : Scaled) (i : Start) → 0 < z .«frame_rows» → (c : ℕ) × (firstOf z i .count ≡ pos c)
 unfolding firstOf
-first-natural z i some = (_, count-rest (z .«scale_h») (z .«frame_rows») (pos (i .«image_y») -ℤ i .origin) some)
+first-natural z i some = (_, count-rest (z .«scale_h» .0) (z .«frame_rows») (i .«image_y» .0 -ℤ i .origin .0) some)
 
 -- ---- the plan
 
-plan-lines : (z : Scaled) (i : Start) (c : Clip) → 16 ≤ z .«frame_rows» → Drawn (c .height / 4) (scaledPlan z c (firstOf z i))
+plan-lines : (z : Scaled) (i : Start) (c : Clip) → 16 ≤ z .«frame_rows» → Drawn (texels (quarters (c .height))) (scaledPlan z c (firstOf z i))
 unfolding scaledPlan linesIn
 plan-lines z i c r =
-    let f = c .height / 4 in
+    let f = texels (quarters (c .height)) in
     drawn-bind f (sourceAddress (z .address) (pos (z .stride * firstOf z i .«image_row» + z .«x_offset»))) _ (quiet-address _ _) (λ p.
     drawn-more (tile7 z (pos 0) ∷ Tile 0 (z .fmt) (z .siz) (z .line % 2 ^ 16) 0 (z .palette) 1 1 15 15 ∷ Size 0 0 0 0 0 ∷ []) 0 f f (passes (65 * f) z (firstPass z c (firstOf z i) p)) refl (omega arith) (by p (ltb 0 f) refl))
   where
-    by : (p : ℕ) (t : Bool) → ltb 0 (c .height / 4) ≡ t → Drawn (c .height / 4) (passes (65 * (c .height / 4)) z (firstPass z c (firstOf z i) p))
+    by : (p : ℕ) (t : Bool) → ltb 0 (texels (quarters (c .height))) ≡ t → Drawn (texels (quarters (c .height))) (passes (65 * texels (quarters (c .height))) z (firstPass z c (firstOf z i) p))
     by p true t =
-        let h : 0 < c .height / 4 = ltb-true 0 (c .height / 4) t in
+        let h : 0 < texels (quarters (c .height)) = ltb-true 0 (texels (quarters (c .height))) t in
         let n = first-natural z i (omega arith) in
-        passes-lines (65 * (c .height / 4)) z (firstPass z c (firstOf z i) p) (c .height / 4) (n .0) r refl (n .1) (omega arith) (omega arith)
+        passes-lines (65 * texels (quarters (c .height))) z (firstPass z c (firstOf z i) p) (texels (quarters (c .height))) (n .0) r refl (n .1) (omega arith) (omega arith)
     by p false t =
         let w = firstPass z c (firstOf z i) p in
-        subst (λ (n : ℕ). Drawn n (passes (65 * (c .height / 4)) z w)) (sym (none-above (c .height / 4) t)) (drawn-end (65 * (c .height / 4)) z w t)
+        subst (λ (n : ℕ). Drawn n (passes (65 * texels (quarters (c .height))) z w)) (sym (none-above (texels (quarters (c .height))) t)) (drawn-end (65 * texels (quarters (c .height))) z w t)
 
 -- ---- the request
 
@@ -220,8 +221,8 @@ pub frame-least : (bg : ObjBg) (mode address : ℕ) (c : Clip) (i : Start) → 1
 frame-least bg mode address c i low high e =
     let z = scaledOf bg mode address c i in
     let some : 0 < z .«image_rows» = positive (z .«image_rows») (or-false (eqb (z .«image_rows») 0) (eqb (z .stride) 0) (or-rest (eqb (z .«source_rows») 0) (eqb (z .«image_rows») 0 || eqb (z .stride) 0) e)) in
-    let h : z .«scale_h» ≡ bg .«scale_h» .0 = scaled-scale bg mode address c i in
-    rw (scaled-frame bg mode address c i) (by (z .«image_rows») (z .«scale_h») some (omega arith) (omega arith))
+    let h : z .«scale_h» .0 ≡ bg .«scale_h» .0 = scaled-scale bg mode address c i in
+    rw (scaled-frame bg mode address c i) (by (z .«image_rows») (z .«scale_h» .0) some (omega arith) (omega arith))
   where
     or-rest : (a b : Bool) → (a || b) ≡ false → b ≡ false
     or-rest true b e = absurd (true≢false e)
@@ -230,20 +231,20 @@ frame-least bg mode address c i low high e =
     by : (rows scale : ℕ) → 0 < rows → 0 < scale → scale ≤ 65535 → 16 ≤ rows * 1048576 / scale
     by rows scale r l h = le-div-iff-mul-le l .1 (omega arith)
 
-scaled-lines : (bg : ObjBg) (q : Request) → 1 ≤ bg .«scale_h» .0 → bg .«scale_h» .0 ≤ 65535 → Adds (clipOf bg (q .scissor) .height / 4) (scaledOut bg q)
+scaled-lines : (bg : ObjBg) (q : Request) → 1 ≤ bg .«scale_h» .0 → bg .«scale_h» .0 ≤ 65535 → Adds (texels (quarters (clipOf bg (q .scissor) .height))) (scaledOut bg q)
 unfolding scaledOut
 scaled-lines bg q low high =
     let c = clipOf bg (q .scissor) in
     let i = startOf bg c in
     let z = scaledOf bg (q .mode) (q .address) c i in
-    let n = c .height / 4 in
+    let n = texels (quarters (c .height)) in
     adds-if n (scaledEmpty c) (yield tt) (elim (slicesBad z) [ true ↦ refuse verdict.Slices | false ↦ scaledPlan z c (firstOf z i) ]) (λ _ _ some. absurd (some refl)) (λ _.
     adds-if n (slicesBad z) (refuse verdict.Slices) (scaledPlan z c (firstOf z i)) (λ _ _ some. absurd (some refl)) (λ e.
     adds-drawn n (scaledPlan z c (firstOf z i)) (plan-lines z i c (frame-least bg (q .mode) (q .address) c i low high e))))
 
--- the frame's height after the scissor, in units
+-- the frame's height after the scissor, in quarters
 abbrev pub clippedHeight : Request → ℕ
-clippedHeight q = clipOf (decode 4 false (q .bytes)) (q .scissor) .height
+clippedHeight q = quarters (clipOf (decode 4 false (q .bytes)) (q .scissor) .height)
 
 -- D "The lines of a finished plan's rectangles add up to the clipped height divided by 4, rounded down"; a plan without entries is that of an empty frame
 pub lines-add-up : (q : Request) → q .opcode ≡ 9 → Bytes (q .bytes) → planOf q .verdict ≡ verdict.Finished → (planOf q .entries ≡ [] → ⊥) → linesIn (planOf q .entries) ≡ clippedHeight q / 4

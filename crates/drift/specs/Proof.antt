@@ -14,7 +14,7 @@ use Rattle.signed.specs.Diff.{up, zdiff, zparts, zarith}
 use Rattle.signed.specs.Floor.{floorDiv, modulo, floor-mod, floor-unique, modulo-lt}
 use Rattle.plan.specs.Request.{Request}
 use Rattle.object.specs.declared.types.ObjBg.{ObjBg}
-use Rattle.object.specs.Measure.{quarters, thirtySeconds}
+use Rattle.object.specs.Measure.{quarters, thirtySeconds, texels, sampledBy}
 use Rattle.object.specs.Layout.{decode}
 use Rattle.plan.specs.Out.{Out, yield, refuse, planOut}
 use Rattle.plan.specs.declared.types.Entry.the-variants.{Tile, Size}
@@ -46,16 +46,16 @@ distance-is y sh start carry o e = by (y % sh) (y / sh * sh) (div-add-mod' y sh)
     by : (r q : ℕ) → q + r ≡ y → pos r -ℤ (o +ℤ pos (carry * 32) -ℤ pos q) ≡ pos start -ℤ o
     by r q f = simp zdiff (omega zarith)
 
-pub start-distance : (bg : ObjBg) (c : Clip) → pos (startOf bg c .«image_y») -ℤ startOf bg c .origin ≡ pos (thirtySeconds (bg .«image_y») + c .top * bg .«scale_h» .0 / 128) -ℤ bg .«image_y_orig» .0
+pub start-distance : (bg : ObjBg) (c : Clip) → startOf bg c .«image_y» .0 -ℤ startOf bg c .origin .0 ≡ pos (thirtySeconds (bg .«image_y») + sampledBy (quarters (c .top)) (bg .«scale_h» .0)) -ℤ bg .«image_y_orig» .0
 unfolding startOf
 start-distance bg c =
-    distance-is (thirtySeconds (bg .«image_y») + c .top * bg .«scale_h» .0 / 128 + startOf bg c .carry * 32) (quarters (bg .«image_h») * 8) (thirtySeconds (bg .«image_y») + c .top * bg .«scale_h» .0 / 128) (startOf bg c .carry) (bg .«image_y_orig» .0) refl
+    distance-is (thirtySeconds (bg .«image_y») + sampledBy (quarters (c .top)) (bg .«scale_h» .0) + startOf bg c .carry * 32) (quarters (bg .«image_h») * 8) (thirtySeconds (bg .«image_y») + sampledBy (quarters (c .top)) (bg .«scale_h» .0)) (startOf bg c .carry) (bg .«image_y_orig» .0) refl
 
 rows-of : (o p : ℤ) (carry wrap n sh om : ℕ) → om < 32 → o ≡ p *ℤ pos 32 +ℤ pos om → sh ≡ 32 * n → floorDiv (o +ℤ pos (carry * 32) -ℤ pos (wrap * sh)) 32 ≡ p +ℤ pos carry -ℤ pos wrap *ℤ pos n
 rows-of o p carry wrap n sh om l e f =
     sym (floor-unique (o +ℤ pos (carry * 32) -ℤ pos (wrap * sh)) 32 (p +ℤ pos carry -ℤ pos wrap *ℤ pos n) om l (rw (e, f) (simp zdiff (omega zarith))) .quot)
 
-pub start-origin : (bg : ObjBg) (c : Clip) (n : ℕ) → quarters (bg .«image_h») * 8 ≡ 32 * n → floorDiv (startOf bg c .origin) 32 ≡ floorDiv (bg .«image_y_orig» .0) 32 +ℤ pos (startOf bg c .carry) -ℤ pos (startOf bg c .wrap) *ℤ pos n
+pub start-origin : (bg : ObjBg) (c : Clip) (n : ℕ) → quarters (bg .«image_h») * 8 ≡ 32 * n → floorDiv (startOf bg c .origin .0) 32 ≡ floorDiv (bg .«image_y_orig» .0) 32 +ℤ pos (startOf bg c .carry) -ℤ pos (startOf bg c .wrap) *ℤ pos n
 unfolding startOf
 start-origin bg c n f =
     rows-of (bg .«image_y_orig» .0) (floorDiv (bg .«image_y_orig» .0) 32) (startOf bg c .carry) (startOf bg c .wrap) n (quarters (bg .«image_h») * 8) (modulo (bg .«image_y_orig» .0) 32) (modulo-lt (bg .«image_y_orig» .0) (omega arith)) (floor-mod (bg .«image_y_orig» .0) 32 (omega arith)) f
@@ -87,9 +87,9 @@ none-count h f dist e = by (dist * 32 / h) (f * (dist * 32 / h * 1024 / f)) (ome
     by : (l g : ℕ) → g ≡ 0 → up (pos (g % 1024) +ℤ pos f -ℤ (pos (l * 1024) -ℤ pos (g / 1024 * 1024))) ≡ 0
     by l g i = simp zdiff (simp zparts (omega zarith))
 
-pub first-count : (z : Scaled) (i : Start) (dist : ℕ) → z .«frame_rows» ≡ 0 → pos (i .«image_y») -ℤ i .origin ≡ pos dist → up (firstOf z i .count) ≡ 0
+pub first-count : (z : Scaled) (i : Start) (dist : ℕ) → z .«frame_rows» ≡ 0 → i .«image_y» .0 -ℤ i .origin .0 ≡ pos dist → up (firstOf z i .count) ≡ 0
 unfolding firstOf
-first-count z i dist e g = ap (λ (u : ℤ). up (countAt (z .«scale_h») (z .«frame_rows») u)) g ∙ none-count (z .«scale_h») (z .«frame_rows») dist e
+first-count z i dist e g = ap (λ (u : ℤ). up (countAt (z .«scale_h» .0) (z .«frame_rows») u)) g ∙ none-count (z .«scale_h» .0) (z .«frame_rows») dist e
 
 -- ---- the scaled plan
 
@@ -97,11 +97,11 @@ first-count z i dist e g = ap (λ (u : ℤ). up (countAt (z .«scale_h») (z .«
 pub record Fit (z : Scaled) (i : Start) (image-h start e : ℕ) (origin : ℤ) : Type 0 where
   pub rows : image-h ≡ 4 * z .«source_rows»
   pub some : 0 < z .«source_rows»
-  pub frame : z .«frame_rows» * z .«scale_h» + e ≡ z .«image_rows» * 1048576
-  pub frame-rest : e < z .«scale_h»
+  pub frame : z .«frame_rows» * z .«scale_h» .0 + e ≡ z .«image_rows» * 1048576
+  pub frame-rest : e < z .«scale_h» .0
   pub below : origin ≤ℤ pos start
-  pub distance : pos (i .«image_y») -ℤ i .origin ≡ pos start -ℤ origin
-  pub first : floorDiv (i .origin) 32 ≡ floorDiv origin 32 +ℤ pos (i .carry) -ℤ pos (i .wrap) *ℤ pos (z .«source_rows»)
+  pub distance : i .«image_y» .0 -ℤ i .origin .0 ≡ pos start -ℤ origin
+  pub first : floorDiv (i .origin .0) 32 ≡ floorDiv origin 32 +ℤ pos (i .carry) -ℤ pos (i .wrap) *ℤ pos (z .«source_rows»)
 
 natural : (o : ℤ) (s : ℕ) → o ≤ℤ pos s → pos s -ℤ o ≡ pos (up (pos s -ℤ o))
 natural o s h = simp zdiff (simp zparts (omega zarith))
@@ -110,13 +110,13 @@ module _ (z : Scaled) (i : Start) (c : Clip) (image-h start e : ℕ) (origin : �
   abbrev far : ℕ
   far = up (pos start -ℤ origin)
 
-  far-is : pos (i .«image_y») -ℤ i .origin ≡ pos far
+  far-is : i .«image_y» .0 -ℤ i .origin .0 ≡ pos far
   far-is = fit .distance ∙ natural origin start (fit .below)
 
   abbrev numbers : Drift
-  numbers = driftAt z (firstOf z i) image-h (i .carry) (c .height / 4) start origin
+  numbers = driftAt z (firstOf z i) image-h (i .carry) (texels (quarters (c .height))) start origin
 
-  first-fixed : (k0 hid : ℕ) → FirstIs z i (firstOf z i) k0 (far * 32 / z .«scale_h») hid → Fixed numbers z k0 (far * 32 / z .«scale_h») (far * 32 % z .«scale_h») e
+  first-fixed : (k0 hid : ℕ) → FirstIs z i (firstOf z i) k0 (far * 32 / z .«scale_h» .0) hid → Fixed numbers z k0 (far * 32 / z .«scale_h» .0) (far * 32 % z .«scale_h» .0) e
   first-fixed k0 hid g =
       record {
         rows = fit .rows;
@@ -126,37 +126,37 @@ module _ (z : Scaled) (i : Start) (c : Clip) (image-h start e : ℕ) (origin : �
         frame = fit .frame;
         frame-rest = fit .frame-rest;
         slice = g .slice;
-        offset = by far (z .«scale_h» * (far * 32 / z .«scale_h») + far * 32 % z .«scale_h») (omega (arith, div-add-mod' (far * 32) (z .«scale_h»))) (natural origin start (fit .below));
+        offset = by far (z .«scale_h» .0 * (far * 32 / z .«scale_h» .0) + far * 32 % z .«scale_h» .0) (omega (arith, div-add-mod' (far * 32) (z .«scale_h» .0))) (natural origin start (fit .below));
         rest = mod-lt (far * 32) (omega (arith, fit .frame-rest));
       }
     where
       by : (n m : ℕ) → m ≡ n * 32 → pos start -ℤ origin ≡ pos n → pos (32 * start) ≡ pos 32 *ℤ origin +ℤ pos m
       by n m f g = let g′ = simp zdiff at g in simp zdiff (omega zarith)
 
-  walk-near : (p : ℕ) → AllBy (limit numbers) numbers 0 (stripsOf numbers) (entriesOut (passes (65 * (c .height / 4)) z (firstPass z c (firstOf z i) p)))
+  walk-near : (p : ℕ) → AllBy (limit numbers) numbers 0 (stripsOf numbers) (entriesOut (passes (65 * texels (quarters (c .height))) z (firstPass z c (firstOf z i) p)))
   walk-near p = by (ltb 0 (z .«frame_rows»)) refl
     where
-      by : (t : Bool) → ltb 0 (z .«frame_rows») ≡ t → AllBy (limit numbers) numbers 0 (stripsOf numbers) (entriesOut (passes (65 * (c .height / 4)) z (firstPass z c (firstOf z i) p)))
+      by : (t : Bool) → ltb 0 (z .«frame_rows») ≡ t → AllBy (limit numbers) numbers 0 (stripsOf numbers) (entriesOut (passes (65 * texels (quarters (c .height))) z (firstPass z c (firstOf z i) p)))
       by true t =
           let f : 0 < z .«frame_rows» = ltb-true 0 (z .«frame_rows») t in
-          let k0 = sliceOf (z .«scale_h») (z .«frame_rows») far f in
-          let l = far * 32 / z .«scale_h» in
-          let hid = aboveOf (z .«scale_h») (z .«frame_rows») far f in
+          let k0 = sliceOf (z .«scale_h» .0) (z .«frame_rows») far f in
+          let l = far * 32 / z .«scale_h» .0 in
+          let hid = aboveOf (z .«scale_h» .0) (z .«frame_rows») far f in
           let g = first-is z i far f far-is in
           let x = first-fixed k0 hid g in
-          subst (λ (k : ℤ). AllBy (limit numbers) numbers 0 (strips (65 * (c .height / 4)) (z .«frame_rows») k (pos (c .height / 4)) (firstOf z i .count)) (entriesOut (passes (65 * (c .height / 4)) z (firstPass z c (firstOf z i) p)))) (sym (g .slice))
-          (passes-near (65 * (c .height / 4)) numbers z k0 l (far * 32 % z .«scale_h») e x (firstPass z c (firstOf z i) p) k0 0 (z .«frame_rows» * suc k0 - 1024 * l) (1024 * (hid * z .«scale_h» / 1024) + 32 * (hid * z .«scale_h» / 32 % 32))
-          (first-at z i c (firstOf z i) p k0 l hid image-h (i .carry) (c .height / 4) start (far * 32 % z .«scale_h») e (i .wrap) origin g x (fit .first)))
+          subst (λ (k : ℤ). AllBy (limit numbers) numbers 0 (strips (65 * texels (quarters (c .height))) (z .«frame_rows») k (pos (texels (quarters (c .height)))) (firstOf z i .count)) (entriesOut (passes (65 * texels (quarters (c .height))) z (firstPass z c (firstOf z i) p)))) (sym (g .slice))
+          (passes-near (65 * texels (quarters (c .height))) numbers z k0 l (far * 32 % z .«scale_h» .0) e x (firstPass z c (firstOf z i) p) k0 0 (z .«frame_rows» * suc k0 - 1024 * l) (1024 * (hid * z .«scale_h» .0 / 1024) + 32 * (hid * z .«scale_h» .0 / 32 % 32))
+          (first-at z i c (firstOf z i) p k0 l hid image-h (i .carry) (texels (quarters (c .height))) start (far * 32 % z .«scale_h» .0) e (i .wrap) origin g x (fit .first)))
       by false t =
           let f : z .«frame_rows» ≡ 0 = omega (arith, ltb-false 0 (z .«frame_rows») t) in
-          idle-passes (65 * (c .height / 4)) numbers 0 (stripsOf numbers) z (firstPass z c (firstOf z i) p) f (first-count z i far f far-is)
+          idle-passes (65 * texels (quarters (c .height))) numbers 0 (stripsOf numbers) z (firstPass z c (firstOf z i) p) f (first-count z i far f far-is)
 
   plan-near : AllBy (limit numbers) numbers 0 (stripsOf numbers) (entriesOut (scaledPlan z c (firstOf z i)))
   unfolding scaledPlan
   plan-near =
       near-bind (limit numbers) numbers 0 (stripsOf numbers) (sourceAddress (z .address) (pos (z .stride * firstOf z i .«image_row» + z .«x_offset»))) _ (quiet-address _ _) (λ p _.
-      rw (entries-more (tile7 z (pos 0) ∷ Tile 0 (z .fmt) (z .siz) (z .line % 2 ^ 16) 0 (z .palette) 1 1 15 15 ∷ Size 0 0 0 0 0 ∷ []) (passes (65 * (c .height / 4)) z (firstPass z c (firstOf z i) p)))
-      (plain-near (limit numbers) numbers 0 (stripsOf numbers) (tile7 z (pos 0) ∷ Tile 0 (z .fmt) (z .siz) (z .line % 2 ^ 16) 0 (z .palette) 1 1 15 15 ∷ Size 0 0 0 0 0 ∷ []) (entriesOut (passes (65 * (c .height / 4)) z (firstPass z c (firstOf z i) p))) tt (walk-near p)))
+      rw (entries-more (tile7 z (pos 0) ∷ Tile 0 (z .fmt) (z .siz) (z .line % 2 ^ 16) 0 (z .palette) 1 1 15 15 ∷ Size 0 0 0 0 0 ∷ []) (passes (65 * texels (quarters (c .height))) z (firstPass z c (firstOf z i) p)))
+      (plain-near (limit numbers) numbers 0 (stripsOf numbers) (tile7 z (pos 0) ∷ Tile 0 (z .fmt) (z .siz) (z .line % 2 ^ 16) 0 (z .palette) 1 1 15 15 ∷ Size 0 0 0 0 0 ∷ []) (entriesOut (passes (65 * texels (quarters (c .height))) z (firstPass z c (firstOf z i) p))) tt (walk-near p)))
 
 -- ---- the request
 
@@ -164,11 +164,11 @@ scaled-source : (bg : ObjBg) (mode address : ℕ) (c : Clip) (i : Start) → sca
 unfolding scaledOf
 scaled-source bg mode address c i = refl
 
-pub scaled-scale : (bg : ObjBg) (mode address : ℕ) (c : Clip) (i : Start) → scaledOf bg mode address c i .«scale_h» ≡ bg .«scale_h» .0
+pub scaled-scale : (bg : ObjBg) (mode address : ℕ) (c : Clip) (i : Start) → scaledOf bg mode address c i .«scale_h» .0 ≡ bg .«scale_h» .0
 unfolding scaledOf
 scaled-scale bg mode address c i = refl
 
-pub scaled-frame : (bg : ObjBg) (mode address : ℕ) (c : Clip) (i : Start) → scaledOf bg mode address c i .«frame_rows» ≡ scaledOf bg mode address c i .«image_rows» * 1048576 / scaledOf bg mode address c i .«scale_h»
+pub scaled-frame : (bg : ObjBg) (mode address : ℕ) (c : Clip) (i : Start) → scaledOf bg mode address c i .«frame_rows» ≡ scaledOf bg mode address c i .«image_rows» * 1048576 / scaledOf bg mode address c i .«scale_h» .0
 unfolding scaledOf
 scaled-frame bg mode address c i = refl
 
@@ -178,19 +178,19 @@ driftFrom bg q =
     let c = clipOf bg (q .scissor) in
     let i = startOf bg c in
     let z = scaledOf bg (q .mode) (q .address) c i in
-    driftAt z (firstOf z i) (quarters (bg .«image_h»)) (i .carry) (c .height / 4) (thirtySeconds (bg .«image_y») + c .top * z .«scale_h» / 128) (bg .«image_y_orig» .0)
+    driftAt z (firstOf z i) (quarters (bg .«image_h»)) (i .carry) (texels (quarters (c .height))) (thirtySeconds (bg .«image_y») + sampledBy (quarters (c .top)) (z .«scale_h» .0)) (bg .«image_y_orig» .0)
 
 fit-of : (bg : ObjBg) (mode address : ℕ) (c : Clip) (i : Start) (z : Scaled) → z ≡ scaledOf bg mode address c i → i ≡ startOf bg c → 1 ≤ bg .«scale_h» .0 → quarters (bg .«image_h») % 4 ≡ 0
-    → bg .«image_y_orig» .0 ≤ℤ pos (thirtySeconds (bg .«image_y») + c .top * z .«scale_h» / 128) → 0 < z .«source_rows»
-    → Fit z i (quarters (bg .«image_h»)) (thirtySeconds (bg .«image_y») + c .top * z .«scale_h» / 128) (z .«image_rows» * 1048576 % z .«scale_h») (bg .«image_y_orig» .0)
+    → bg .«image_y_orig» .0 ≤ℤ pos (thirtySeconds (bg .«image_y») + sampledBy (quarters (c .top)) (z .«scale_h» .0)) → 0 < z .«source_rows»
+    → Fit z i (quarters (bg .«image_h»)) (thirtySeconds (bg .«image_y») + sampledBy (quarters (c .top)) (z .«scale_h» .0)) (z .«image_rows» * 1048576 % z .«scale_h» .0) (bg .«image_y_orig» .0)
 fit-of bg mode address c i z ez ei o m b s =
     let n : z .«source_rows» ≡ quarters (bg .«image_h») * 8 / 32 = ap (λ (u : Scaled). u .«source_rows») ez ∙ scaled-source bg mode address c i in
-    let h : z .«scale_h» ≡ bg .«scale_h» .0 = ap (λ (u : Scaled). u .«scale_h») ez ∙ scaled-scale bg mode address c i in
-    let f : z .«frame_rows» ≡ z .«image_rows» * 1048576 / z .«scale_h» = subst (λ (u : Scaled). u .«frame_rows» ≡ u .«image_rows» * 1048576 / u .«scale_h») (sym ez) (scaled-frame bg mode address c i) in
+    let h : z .«scale_h» .0 ≡ bg .«scale_h» .0 = ap (λ (u : Scaled). u .«scale_h» .0) ez ∙ scaled-scale bg mode address c i in
+    let f : z .«frame_rows» ≡ z .«image_rows» * 1048576 / z .«scale_h» .0 = subst (λ (u : Scaled). u .«frame_rows» ≡ u .«image_rows» * 1048576 / u .«scale_h» .0) (sym ez) (scaled-frame bg mode address c i) in
     record {
       rows = omega arith;
       some = s;
-      frame = rw f (div-add-mod' (z .«image_rows» * 1048576) (z .«scale_h»));
+      frame = rw f (div-add-mod' (z .«image_rows» * 1048576) (z .«scale_h» .0));
       frame-rest = mod-lt (z .«image_rows» * 1048576) (omega arith);
       below = b;
       distance = rw (ei, h) (start-distance bg c);
@@ -217,7 +217,7 @@ scaled-near bg q o m b =
     let z = scaledOf bg (q .mode) (q .address) c i in
     near-if (driftFrom bg q) 0 (stripsOf (driftFrom bg q)) (scaledEmpty c) (yield tt) (elim (slicesBad z) [ true ↦ refuse verdict.Slices | false ↦ scaledPlan z c (firstOf z i) ]) (λ _. tt) (λ _.
     near-if (driftFrom bg q) 0 (stripsOf (driftFrom bg q)) (slicesBad z) (refuse verdict.Slices) (scaledPlan z c (firstOf z i)) (λ _. tt) (λ e.
-    plan-near z i c (quarters (bg .«image_h»)) (thirtySeconds (bg .«image_y») + c .top * z .«scale_h» / 128) (z .«image_rows» * 1048576 % z .«scale_h») (bg .«image_y_orig» .0) (fit-of bg (q .mode) (q .address) c i z refl refl o m b (positive (z .«source_rows») (or-false (eqb (z .«source_rows») 0) (eqb (z .«image_rows») 0 || eqb (z .stride) 0) e)))))
+    plan-near z i c (quarters (bg .«image_h»)) (thirtySeconds (bg .«image_y») + sampledBy (quarters (c .top)) (z .«scale_h» .0)) (z .«image_rows» * 1048576 % z .«scale_h» .0) (bg .«image_y_orig» .0) (fit-of bg (q .mode) (q .address) c i z refl refl o m b (positive (z .«source_rows») (or-false (eqb (z .«source_rows») 0) (eqb (z .«image_rows») 0 || eqb (z .stride) 0) e)))))
 
 pub drift-is : (q : Request) → driftOf q ≡ driftFrom (decode 4 false (q .bytes)) q
 unfolding driftOf

@@ -13,6 +13,8 @@ use lib.Signed.{ltZ, leZ}
 use Rattle.signed.specs.Diff.{up, zdiff, zarith, ltZ-true}
 use Rattle.signed.specs.Floor.{floorDiv, modulo, floor-mod}
 use Rattle.signed.specs.Cast.{minZ, i16}
+use Rattle.object.specs.Measure.{thirtySeconds}
+use Rattle.object.specs.Range.{Below}
 use Rattle.plan.specs.declared.types.Entry.{Entry}
 use Rattle.plan.specs.Out.{Out, more, _>>=_}
 use Rattle.plan.specs.declared.types.Scaled.{Scaled}
@@ -23,7 +25,7 @@ use Rattle.plan.specs.Laws.{entriesOut, bind-assoc, more-nil, passes-on, passes
 use Rattle.plan.specs.Demand.{Drift, strips, ahead}
 use Rattle.drift.specs.Core
 use Rattle.drift.specs.Plain.{NearBy, AllBy, After, plainly, wrapping, entries-more, near-bind, quiet-advance, quiet-rows}
-use Rattle.drift.specs.Line.{distance, near, small, shifted}
+use Rattle.drift.specs.Line.{distance, near, small-at, shifted}
 
 -- how far behind a line can be, besides h: 30 and, for an origin between rows, what it has below a whole row
 abbrev pub limit : Drift → ℕ
@@ -52,8 +54,8 @@ pub record At (d : Drift) (z : Scaled) (k0 l : ℕ) (w : Walk) (k earlier c v : 
   pub lines : c + 1024 * (l + earlier) ≡ z .«frame_rows» * suc k
   pub row : modulo (pos (z .«source_rows») -ℤ w .source .remain) (z .«source_rows») ≡ modulo (rowAt d (pos k)) (d .source-rows)
   pub rows : pos (d .image-rows) *ℤ pos (suc k) +ℤ floorDiv (d .origin) 32 +ℤ pos (d .carry) ≡ rowAt d (pos k) +ℤ w .«slice_rows»
-  pub t : w .t < 32
-  pub sampled : pos 1024 *ℤ rowAt d (pos k) +ℤ pos (32 * w .t) ≡ pos (1024 * (d .image-rows * k)) +ℤ pos 1024 *ℤ (floorDiv (d .origin) 32 +ℤ pos (d .carry)) +ℤ pos v
+  pub t : Below 5 (w .t .0)
+  pub sampled : pos 1024 *ℤ rowAt d (pos k) +ℤ pos (32 * thirtySeconds (w .t)) ≡ pos (1024 * (d .image-rows * k)) +ℤ pos 1024 *ℤ (floorDiv (d .origin) 32 +ℤ pos (d .carry)) +ℤ pos v
   pub behind : d .h * (l + earlier) ≤ 1024 * (d .image-rows * k) + v + 31
   pub before : 1048576 * (d .image-rows * k) + 1024 * v ≤ 1024 * (d .h * (l + earlier)) + (1024 * d .h + d .h * k)
 
@@ -75,16 +77,16 @@ later d k0 k e h = by (pos (d .image-rows) *ℤ pos (suc k) +ℤ floorDiv (d .or
 
 -- a line's distance is its strip's, in closed form
 pub line-distance : (d : Drift) (z : Scaled) (k0 l rho e : ℕ) (w : Walk) (k earlier c v : ℕ) → Fixed d z k0 l rho e → At d z k0 l w k earlier c v → (j : ℕ)
-    → ahead d (pos k) (rowOf z (w .source .remain)) (i16 (pos (w .t))) earlier j ≡ pos (1024 * (d .image-rows * k) + v) -ℤ pos (d .h * (l + earlier) + rho + 32 * modulo (d .origin) 32)
-line-distance d z k0 l rho e w k earlier c v f a j = by (rowOf z (w .source .remain)) (i16 (pos (w .t))) (d .image-h) (a .row) (small (w .t) (a .t)) (f .rows)
+    → ahead d (pos k) (rowOf z (w .source .remain)) (i16 (w .t .0)) earlier j ≡ pos (1024 * (d .image-rows * k) + v) -ℤ pos (d .h * (l + earlier) + rho + 32 * modulo (d .origin) 32)
+line-distance d z k0 l rho e w k earlier c v f a j = by (rowOf z (w .source .remain)) (i16 (w .t .0)) (d .image-h) (a .row) (small-at (w .t .0) (a .t)) (f .rows)
   where
-    by : (row : ℕ) (ult : ℤ) (ih : ℕ) → row ≡ modulo (rowAt d (pos k)) (d .source-rows) → ult ≡ pos (w .t) → ih ≡ 4 * d .source-rows
+    by : (row : ℕ) (ult : ℤ) (ih : ℕ) → row ≡ modulo (rowAt d (pos k)) (d .source-rows) → ult ≡ pos (thirtySeconds (w .t)) → ih ≡ 4 * d .source-rows
         → pos (1024 * row) +ℤ pos 32 *ℤ ult +ℤ pos (d .h * j) -ℤ pos (32 * (d .start + 32 * d .carry) + d .h * (j + earlier)) +ℤ pos (256 * ih) *ℤ floorDiv (rowAt d (pos k)) (d .source-rows) ≡ pos (1024 * (d .image-rows * k) + v) -ℤ pos (d .h * (l + earlier) + rho + 32 * modulo (d .origin) 32)
     by row ult ih p q r =
-        rw (p, q, r) (distance (d .h) (d .source-rows) (d .start) (d .carry) l rho (d .image-rows) k (w .t) j v (modulo (rowAt d (pos k)) (d .source-rows)) earlier (modulo (d .origin) 32) (floorDiv (rowAt d (pos k)) (d .source-rows)) (d .origin) (floorDiv (d .origin) 32) (rowAt d (pos k)) (floor-mod (rowAt d (pos k)) (d .source-rows) (f .some)) (floor-mod (d .origin) 32 (omega arith)) (f .offset) (a .sampled))
+        rw (p, q, r) (distance (d .h) (d .source-rows) (d .start) (d .carry) l rho (d .image-rows) k (thirtySeconds (w .t)) j v (modulo (rowAt d (pos k)) (d .source-rows)) earlier (modulo (d .origin) 32) (floorDiv (rowAt d (pos k)) (d .source-rows)) (d .origin) (floorDiv (d .origin) 32) (rowAt d (pos k)) (floor-mod (rowAt d (pos k)) (d .source-rows) (f .some)) (floor-mod (d .origin) 32 (omega arith)) (f .offset) (a .sampled))
 
 -- each line of a strip is near
-pub line-near : (d : Drift) (z : Scaled) (k0 l rho e : ℕ) (w : Walk) (k earlier c v : ℕ) → Fixed d z k0 l rho e → At d z k0 l w k earlier c v → (j : ℕ) → NearBy (limit d) (d .h) (pos k) (ahead d (pos k) (rowOf z (w .source .remain)) (i16 (pos (w .t))) earlier j)
+pub line-near : (d : Drift) (z : Scaled) (k0 l rho e : ℕ) (w : Walk) (k earlier c v : ℕ) → Fixed d z k0 l rho e → At d z k0 l w k earlier c v → (j : ℕ) → NearBy (limit d) (d .h) (pos k) (ahead d (pos k) (rowOf z (w .source .remain)) (i16 (w .t .0)) earlier j)
 line-near d z k0 l rho e w k earlier c v f a j =
     subst (λ (x : ℤ). NearBy (limit d) (d .h) (pos k) x) (sym (line-distance d z k0 l rho e w k earlier c v f a j)) (near (d .h) (l + earlier) rho (d .image-rows) k v (modulo (d .origin) 32) (f .rest) (a .behind) (a .before))
 
@@ -113,7 +115,7 @@ next-at d z k0 l rho e w k earlier c v f a y left cnt s r earlier′ h p q g =
       lines = omega arith;
       row = row-after d z k0 l rho e w k earlier c v f a s h;
       rows = by (floorDiv (d .origin) 32) (z .«image_rows») (rowAt d (pos (suc k))) (f .held) n;
-      t = omega arith;
+      t = record { low = omega zarith; high = omega zarith };
       sampled = drawn (floorDiv (d .origin) 32) (rowAt d (pos (suc k))) n;
       behind = omega (arith, Core.behind (z .«frame_rows») (d .h) e r (l + earlier′) (suc k) (d .image-rows) (f .frame) g);
       before = omega (arith, Core.before (z .«frame_rows») (d .h) e r (l + earlier′) (suc k) (d .image-rows) (f .frame) (f .frame-rest) g q);
@@ -194,7 +196,7 @@ module _ (d : Drift) (z : Scaled) (k0 l rho e : ℕ) (f : Fixed d z k0 l rho e) 
   uncut t = ap (λ (u : Bool). cond u (up (pos (drawOf w) +ℤ passLeft w)) (drawOf w)) t
 
   uncut-rows : ltZ (passLeft w) (pos 0) ≡ false → passRows z w ≡ w .«slice_rows»
-  uncut-rows t = ap (λ (u : Bool). cond u (minZ (w .«slice_rows» +ℤ floorDiv (passLeft w *ℤ pos (z .«scale_h»)) 1024 +ℤ pos 1) (pos (z .«image_rows»))) (w .«slice_rows»)) t
+  uncut-rows t = ap (λ (u : Bool). cond u (minZ (w .«slice_rows» +ℤ floorDiv (passLeft w *ℤ pos (z .«scale_h» .0)) 1024 +ℤ pos 1) (pos (z .«image_rows»))) (w .«slice_rows»)) t
 
   -- after the rectangle: the walk is over, or goes on in the closed form
   rest-near : (s : Source) → After (z .«source_rows») (w .source .remain) (passRows z w) s → AllBy (limit d) d (earlier + passLines w) (strips n (z .«frame_rows») (pos (suc k)) (passLeft w) (pos (modulo (w .count) 1024) +ℤ pos (z .«frame_rows»))) (entriesOut (passes n z (drawnNext z w s)))

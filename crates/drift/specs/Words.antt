@@ -13,10 +13,13 @@ use lib.Signed.{ltZ}
 use mir.Syntax.{w64}
 use mir.Val.{toZ}
 use mir.ValLaws.{toZ-pos}
+use Rattle.signed.specs.Diff.{up, zarith}
 use Rattle.signed.specs.Floor.{floorDiv, modulo-lt}
 use Rattle.signed.specs.Cast.{i16, word}
 use Rattle.plan.specs.Request.{Request}
 use Rattle.object.specs.declared.types.ObjBg.{ObjBg}
+use Rattle.object.specs.Measure.{quarters, texels}
+use Rattle.object.specs.Range.{Below}
 use Rattle.object.specs.Layout.{decode}
 use Rattle.plan.specs.declared.types.Entry.{Entry}
 use Rattle.plan.specs.Out.{Out, Plan, _>>=_, yield, refuse, planOut}
@@ -39,7 +42,7 @@ use Rattle.plan.specs.Steps.{RunGives}
 use Rattle.plan.specs.Laws.{entriesOut, more-nil, passes-on, passes-end}
 use Rattle.plan.specs.Demand.{Drift, driftOf, stripsOf, AllNear, Apt, ahead}
 use Rattle.drift.specs.Plain.{Plain, NearBy, AllBy, by-near, Quiet, entries-more, quiet-address, quiet-advance, quiet-rows}
-use Rattle.drift.specs.Line.{small}
+use Rattle.drift.specs.Line.{small-at}
 use Rattle.drift.specs.Walk.{passRows, passRect, drawnNext, idleNext, idle-is, draw-is}
 use Rattle.drift.specs.Proof.{checked-scaled, whole-rows}
 use Rattle.drift.specs.Prefix.{first-by}
@@ -90,15 +93,15 @@ short-bind : {A B : Type 0} {P : A → Type 0} (a : Out A) (k : A → Out B) →
 short-bind (go es x) k p f = rw (entries-more es (k x)) (plain-short es (entriesOut (k x)) (p .still .0) (f x))
 short-bind (stop es l v) k p f = plain-alone es (p .still .0)
 
-short-t : (t : ℕ) → t < 32 → i16 (pos t) ≡ toZ w64 (word (i16 (pos t)))
-short-t t h = rw (small t h, mod-eq-of-lt {n = t} {m = 2 ^ 64} (omega arith)) (sym (toZ-pos w64 t (omega arith)))
+short-t : (t : ℤ) → Below 5 t → i16 t ≡ toZ w64 (word (i16 t))
+short-t t h = let l : up t < 32 = omega zarith in rw (small-at t h, mod-eq-of-lt {n = up t} {m = 2 ^ 64} (omega arith)) (sym (toZ-pos w64 (up t) (omega arith)))
 
-pub short-passes : (n : ℕ) (z : Scaled) (w : Walk) → w .t < 32 → Short (entriesOut (passes n z w))
+pub short-passes : (n : ℕ) (z : Scaled) (w : Walk) → Below 5 (w .t .0) → Short (entriesOut (passes n z w))
 unfolding passes
 short-passes zero z w h = tt
 short-passes (suc n) z w h = by (ltZ (pos 0) (w .«frame_remain»)) refl (λ w′. short-passes n z w′)
   where
-    lined : ((w′ : Walk) → w′ .t < 32 → Short (entriesOut (passes n z w′))) → (t : Bool) → eqb (drawOf w) 0 ≡ t → Short (entriesOut (pass z w >>= (λ next. passes n z next)))
+    lined : ((w′ : Walk) → Below 5 (w′ .t .0) → Short (entriesOut (passes n z w′))) → (t : Bool) → eqb (drawOf w) 0 ≡ t → Short (entriesOut (pass z w >>= (λ next. passes n z next)))
     lined r true t =
         rw (idle-is z w (λ next. passes n z next) t)
         (short-bind (advance z (w .source) (w .«slice_rows»)) _ (quiet-advance z (w .source) (w .«slice_rows»)) (λ s.
@@ -107,22 +110,22 @@ short-passes (suc n) z w h = by (ltZ (pos 0) (w .«frame_remain»)) refl (λ w�
         rw (draw-is z w (λ next. passes n z next) t)
         (short-bind (load1cyc z (w .source) (passRows z w)) _ (quiet-rows z (w .source) (passRows z w)) (λ s.
         rw (entries-more (passRect z w ∷ []) (passes n z (drawnNext z w s)))
-        (short-t (w .t) h, r (drawnNext z w s) (omega arith))))
+        (short-t (w .t .0) h, r (drawnNext z w s) (record { low = omega zarith; high = omega zarith }))))
 
-    by : (t : Bool) → ltZ (pos 0) (w .«frame_remain») ≡ t → ((w′ : Walk) → w′ .t < 32 → Short (entriesOut (passes n z w′))) → Short (entriesOut (passes (suc n) z w))
+    by : (t : Bool) → ltZ (pos 0) (w .«frame_remain») ≡ t → ((w′ : Walk) → Below 5 (w′ .t .0) → Short (entriesOut (passes n z w′))) → Short (entriesOut (passes (suc n) z w))
     by true t r = rw (passes-on n z w t) (lined r (eqb (drawOf w) 0) refl)
     by false t r = rw (passes-end (suc n) z w t) tt
 
-first-t : (z : Scaled) (i : Start) → firstOf z i .t < 32
+first-t : (z : Scaled) (i : Start) → Below 5 (firstOf z i .t .0)
 unfolding firstOf
-first-t z i = modulo-lt (floorDiv (firstOf z i .«image_hidden») 32) (omega arith)
+first-t z i = let l = modulo-lt (floorDiv (firstOf z i .«image_hidden») 32) {m = 32} (omega arith) in record { low = omega zarith; high = omega zarith }
 
 short-plan : (z : Scaled) (i : Start) (c : Clip) → Short (entriesOut (scaledPlan z c (firstOf z i)))
 unfolding scaledPlan
 short-plan z i c =
     short-bind (sourceAddress (z .address) (pos (z .stride * firstOf z i .«image_row» + z .«x_offset»))) _ (quiet-address _ _) (λ p.
-    rw (entries-more (tile7 z (pos 0) ∷ Tile 0 (z .fmt) (z .siz) (z .line % 2 ^ 16) 0 (z .palette) 1 1 15 15 ∷ Size 0 0 0 0 0 ∷ []) (passes (65 * (c .height / 4)) z (firstPass z c (firstOf z i) p)))
-    (short-passes (65 * (c .height / 4)) z (firstPass z c (firstOf z i) p) (first-t z i)))
+    rw (entries-more (tile7 z (pos 0) ∷ Tile 0 (z .fmt) (z .siz) (z .line % 2 ^ 16) 0 (z .palette) 1 1 15 15 ∷ Size 0 0 0 0 0 ∷ []) (passes (65 * texels (quarters (c .height))) z (firstPass z c (firstOf z i) p)))
+    (short-passes (65 * texels (quarters (c .height))) z (firstPass z c (firstOf z i) p) (first-t z i)))
 
 short-if : (t : Bool) (a b : Out (Unit {0})) → (t ≡ true → Short (entriesOut a)) → (t ≡ false → Short (entriesOut b)) → Short (entriesOut {A = Unit {0}} (elim t [ true ↦ a | false ↦ b ]))
 short-if true a b f g = f refl

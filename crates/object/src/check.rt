@@ -7,6 +7,7 @@ ghost use Rattle.object.specs.Range.{CheckedIs};
 use crate::decode::Decoded;
 use crate::decode::decode_obj_bg;
 use crate::measure::quarters;
+use crate::measure::strip_lines;
 use crate::measure::texels;
 use crate::types::Checked;
 use crate::types::ObjBg;
@@ -82,7 +83,7 @@ fn copy_bad(bg: ObjBg) -> bool
 {
     let product = (wide(bg.tmem_size) << 16) | wide(bg.tmem_load_sh);
     (bg.image_load != 0xfff4)
-        | (bg.tmem_h / 4 == 0)
+        | (strip_lines(bg.tmem_h) == 0)
         | (texels(bg.image_w) == 0)
         | (texels(bg.image_h) == 0)
         | (bg.tmem_size_w == 0)

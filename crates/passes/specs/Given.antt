@@ -1,16 +1,17 @@
 -- What each stage gives: the entry is the first of what is to come, and what is reached is the rest.
 -- Assumes nothing.
 use mathlib.Core.Path.{_≡_, refl, sym, ap, subst, _∙_}
-use mathlib.Core.List.{List, [], _∷_, _++_}
-use Prim.Native.Nat.{ℕ, suc, _+_, _-_, _*_, _/_, _≤_, _<_}
+use mathlib.Core.List.{[], _∷_}
+use Prim.Native.Nat.{ℕ, suc, _+_, _-_, _*_, _≤_, _<_}
 use native.Mathlib.Omega.{arith}
 use mathlib.Core.Bool.{Bool, true, false, cond}
 use lib.Dec.{eqb, lit<, lit≤}
 use Rattle.signed.specs.Floor.{modulo-lt}
 use Rattle.signed.specs.Cast.{u16}
-use lib.IntN.{ℤ, pos, negsuc, negℤ, _+ℤ_, _-ℤ_, _*ℤ_}
+use lib.IntN.{ℤ, pos, negsuc, _-ℤ_, _*ℤ_}
 use lib.Signed.{_≤ℤ_}
 use Rattle.signed.specs.Diff.{up, dn, zdiff, zparts, zarith}
+use Rattle.object.specs.Measure.{quarters, texels}
 use Rattle.object.specs.declared.types.Verdict.the-variants as verdict
 use Rattle.plan.specs.declared.types.Entry.{Entry}
 use Rattle.plan.specs.declared.types.Entry.the-variants.{Size}
@@ -19,9 +20,8 @@ use Rattle.plan.specs.declared.types.Source.{Source}
 use Rattle.plan.specs.declared.types.Walk.{Walk}
 use Rattle.plan.specs.declared.types.Clip.{Clip}
 use Rattle.plan.specs.declared.types.First.{First}
-use Rattle.plan.specs.Out.{Out, more, _>>=_, _>>_, yield, refuse, emit, planOut}
+use Rattle.plan.specs.Out.{Out, _>>_, yield, refuse, emit, planOut}
 use Rattle.plan.specs.Out.Out.{go, stop}
-use Rattle.plan.specs.Laws.{more-nil}
 use Rattle.plan.specs.Load.{loadOut, loadTile, sourceAddress}
 use Rattle.plan.specs.Next.{cons, ended}
 use Rattle.plan.specs.Sound.{SoundScaled, SoundFirst, entryRows, entryLine, EntryIn, Narrow, Names}
@@ -281,7 +281,7 @@ module _ (z : Scaled) (c : Clip) (f : First) (zs : SoundScaled z) (fs : SoundFir
     unfolding comingScaled scaledPlan passesOf
     start-at =
         record {
-          is = rw (iz, iw) (sym (ap planOut (after-yield (sourceAddress (z .address) (pos (z .stride * f .«image_row» + z .«x_offset»))) pointer _ e ∙ three (tile7 z (pos 0)) (tile0 z) (Size 0 0 0 0 0) (passes (65 * (c .height / 4)) z (firstPass z c f pointer)))));
+          is = rw (iz, iw) (sym (ap planOut (after-yield (sourceAddress (z .address) (pos (z .stride * f .«image_row» + z .«x_offset»))) pointer _ e ∙ three (tile7 z (pos 0)) (tile0 z) (Size 0 0 0 0 0) (passes (65 * texels (quarters (c .height))) z (firstPass z c f pointer)))));
           sound = record { scaled = rw iz zs; walk = rw iw (first-sound pointer) };
           left = rw iw (omega (arith, cs .height));
         }

@@ -2,36 +2,35 @@
 -- Assumes nothing.
 use mathlib.Core.Path.{_≡_, refl, sym, ap, _∙_}
 use mathlib.Core.Bool.{Bool, true, false, cond}
-use mathlib.Core.List.{List, [], _∷_}
-use Prim.Native.Nat.{ℕ, zero, suc, _+_, _-_, _*_, _/_, _^_, _≤_, _<_}
+use mathlib.Core.List.{[]}
+use Prim.Native.Nat.{ℕ, _-_, _*_, _^_, _≤_, _<_}
 use native.Mathlib.Omega.{arith}
 use native.Mathlib.Nat.{mul-le-mul}
-use lib.Dec.{eqb, lit≤}
+use lib.Dec.{eqb}
 use lib.IntN.{ℤ, pos, negsuc, negℤ, _+ℤ_, _-ℤ_, _*ℤ_}
 use lib.Signed.{ltZ, leZ, _≤ℤ_}
 use borrow.Author.Tests.{ne-eqb, le-ltb, eqb-true}
 use Rattle.signed.specs.Diff.{up, dn, zdiff, zparts, zarith}
-use Rattle.signed.specs.Floor.{floorDiv, modulo}
+use Rattle.signed.specs.Floor.{floorDiv}
 use Rattle.signed.specs.Cast.{minZ}
 use Rattle.object.specs.declared.types.Verdict.the-variants as verdict
+use Rattle.object.specs.Measure.{whole}
 use Rattle.object.specs.Range.{Within}
 use Rattle.plan.specs.declared.types.Scaled.{Scaled}
 use Rattle.plan.specs.declared.types.Source.{Source}
 use Rattle.plan.specs.declared.types.Walk.{Walk}
-use Rattle.plan.specs.Out.{Out, Plan, more, _>>=_, yield, refuse, planOut}
-use Rattle.plan.specs.Laws.{more-nil}
+use Rattle.plan.specs.Out.{_>>=_, yield, refuse, planOut}
 use Rattle.plan.specs.Next.{ended}
 use Rattle.plan.specs.Sound.{SoundScaled}
-use Rattle.plan.specs.Scaled.{drawOf, leftAfter, linesOf, rowsOf, nextPass, afterDraw, advance, load1cyc}
-use Rattle.passes.specs.declared.types.Part.{Part}
+use Rattle.plan.specs.Scaled.{drawOf, leftAfter, linesOf, rowsOf, nextPass, advance, load1cyc}
 use Rattle.passes.specs.declared.types.Place.{Place}
 use Rattle.passes.specs.declared.types.Piece.the-variants as piece
 use Rattle.passes.specs.declared.types.Begun.{Begun}
 use Rattle.passes.specs.declared.types.Begun.the-variants as begun
 use Rattle.passes.specs.Coming.{passesOf, pieceOut, drawn}
-use Rattle.passes.specs.Rounds.{passes-over, idle-round, draw-round}
+use Rattle.passes.specs.Rounds.{idle-round, draw-round}
 use Rattle.passes.specs.Loads.{after-yield, after-refuse}
-use Rattle.passes.specs.Comes.{bounded, within, floor-in, times-in, difference-in, wider}
+use Rattle.passes.specs.Comes.{within}
 use Rattle.passes.specs.Kept.{idle-kept, not-over}
 use Rattle.passes.specs.Sound.{SoundWalk, SoundPass, Runs, Begins, dueLines, cutLines, cutRows}
 
@@ -109,15 +108,15 @@ cut-low z rows left zs f g = by (ltZ left (pos 0))
     sums : (a b : ℤ) → negℤ (pos (2 ^ 27)) ≤ℤ a → negℤ (pos (2 ^ 27)) ≤ℤ b → negℤ (pos (2 ^ 28)) ≤ℤ (a +ℤ b +ℤ pos 1)
     sums a b p q = simp zdiff (omega zarith)
 
-    by : (t : Bool) → negℤ (pos (2 ^ 28)) ≤ℤ cond t (minZ (rows +ℤ floorDiv (left *ℤ pos (z .«scale_h»)) 1024 +ℤ pos 1) (pos (z .«image_rows»))) rows
-    by true = least-low (rows +ℤ floorDiv (left *ℤ pos (z .«scale_h»)) 1024 +ℤ pos 1) (pos (z .«image_rows»)) (2 ^ 28) (sums rows (floorDiv (left *ℤ pos (z .«scale_h»)) 1024) f (over-low left (z .«scale_h») g (zs .scale-h′))) (omega zarith)
+    by : (t : Bool) → negℤ (pos (2 ^ 28)) ≤ℤ cond t (minZ (rows +ℤ whole (left *ℤ pos (z .«scale_h» .0)) +ℤ pos 1) (pos (z .«image_rows»))) rows
+    by true = least-low (rows +ℤ whole (left *ℤ pos (z .«scale_h» .0)) +ℤ pos 1) (pos (z .«image_rows»)) (2 ^ 28) (sums rows (whole (left *ℤ pos (z .«scale_h» .0))) f (over-low left (z .«scale_h» .0) g (zs .scale-h′))) (omega zarith)
     by false = omega zarith
 
 cut-high : (z : Scaled) (rows left : ℤ) → SoundScaled z → rows ≤ℤ pos 512 → cutRows z rows left ≤ℤ pos 512
 cut-high z rows left zs f = by (ltZ left (pos 0))
   where
-    by : (t : Bool) → cond t (minZ (rows +ℤ floorDiv (left *ℤ pos (z .«scale_h»)) 1024 +ℤ pos 1) (pos (z .«image_rows»))) rows ≤ℤ pos 512
-    by true = least-high (rows +ℤ floorDiv (left *ℤ pos (z .«scale_h»)) 1024 +ℤ pos 1) (pos (z .«image_rows»)) 512 (omega (zarith, zs .image-rows′))
+    by : (t : Bool) → cond t (minZ (rows +ℤ whole (left *ℤ pos (z .«scale_h» .0)) +ℤ pos 1) (pos (z .«image_rows»))) rows ≤ℤ pos 512
+    by true = least-high (rows +ℤ whole (left *ℤ pos (z .«scale_h» .0)) +ℤ pos 1) (pos (z .«image_rows»)) 512 (omega (zarith, zs .image-rows′))
     by false = f
 
 -- the place before a pass's load

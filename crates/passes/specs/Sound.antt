@@ -1,26 +1,27 @@
 -- The ranges that a scaled walk keeps, so that no sum overflows, and how many entries are still to come at the most.
 -- Assumes nothing.
 use mathlib.Core.Path.{_≡_}
-use Prim.Native.Nat.{ℕ, suc, _+_, _-_, _*_, _/_, _^_, _≤_, _<_}
+use Prim.Native.Nat.{ℕ, suc, _+_, _-_, _*_, _/_, _^_, _≤_}
 use mathlib.Core.Bool.{true, false, cond}
 use lib.Dec.{eqb}
 use lib.IntN.{ℤ, pos, negℤ, _+ℤ_, _-ℤ_, _*ℤ_}
 use lib.Signed.{_≤ℤ_, ltZ, leZ}
 use Rattle.signed.specs.Diff.{up, dn}
-use Rattle.signed.specs.Floor.{floorDiv, modulo}
+use Rattle.signed.specs.Floor.{modulo}
 use Rattle.signed.specs.Cast.{minZ}
-use Rattle.object.specs.Range.{Within}
+use Rattle.object.specs.Measure.{quarters, whole}
+use Rattle.object.specs.Range.{Below, Within}
 use Rattle.plan.specs.declared.types.Scaled.{Scaled}
 use Rattle.plan.specs.declared.types.Source.{Source}
 use Rattle.plan.specs.declared.types.Walk.{Walk}
-use mathlib.Core.List.{List, [], _∷_}
+use mathlib.Core.List.{[], _∷_}
 use Rattle.object.specs.declared.types.Verdict.the-variants as verdict
 use Rattle.plan.specs.declared.types.Clip.{Clip}
 use Rattle.plan.specs.Next.{cons, ended}
 use Rattle.plan.specs.Out.{Out, Plan, emit}
 use Rattle.plan.specs.Out.Out.{stop}
 use Rattle.plan.specs.Sound.{SoundScaled, EntryIn, Narrow}
-use Rattle.plan.specs.Scaled.{drawOf, leftAfter, linesOf, rowsOf, afterDraw}
+use Rattle.plan.specs.Scaled.{drawOf, leftAfter, linesOf, afterDraw}
 use Rattle.passes.specs.declared.types.Part.{Part}
 use Rattle.passes.specs.declared.types.Piece.{Piece}
 use Rattle.passes.specs.declared.types.Piece.the-variants as piece
@@ -50,7 +51,7 @@ pub record SoundWalk (w : Walk) : Type 0 where
   pub count′ : w .count ≤ℤ pos (2 ^ 31)
   pub slice-rows : negℤ (pos (2 ^ 27)) ≤ℤ w .«slice_rows»
   pub slice-rows′ : w .«slice_rows» ≤ℤ pos 512
-  pub t : w .t ≤ 31
+  pub t : Below 5 (w .t .0)
   pub low : dn (w .source .remain) + 1280000 * up (w .«frame_remain») ≤ 2 ^ 40 + 20000 * (up (w .count) / 16)
   pub high : up (w .source .remain) + dn (w .«slice_rows») ≤ 2 ^ 28
 
@@ -62,13 +63,13 @@ pub record Runs (z : Scaled) (w : Walk) : Type 0 where
 
 -- R 354, 366–370 over their numbers
 abbrev pub dueLines : ℤ → ℕ
-dueLines count = up (floorDiv count 1024)
+dueLines count = up (whole count)
 
 abbrev pub cutLines : (draw : ℕ) → (left : ℤ) → ℕ
 cutLines draw left = cond (ltZ left (pos 0)) (up (pos draw +ℤ left)) draw
 
 abbrev pub cutRows : Scaled → (rows left : ℤ) → ℤ
-cutRows z rows left = cond (ltZ left (pos 0)) (minZ (rows +ℤ floorDiv (left *ℤ pos (z .«scale_h»)) 1024 +ℤ pos 1) (pos (z .«image_rows»))) rows
+cutRows z rows left = cond (ltZ left (pos 0)) (minZ (rows +ℤ whole (left *ℤ pos (z .«scale_h» .0)) +ℤ pos 1) (pos (z .«image_rows»))) rows
 
 -- a pass that draws: its rows and lines are those of the walk
 pub record SoundPass (p : Place) : Type 0 where
@@ -208,5 +209,5 @@ Gave plan n (next.Refused e) = (plan ≡ ended (e ∷ []) verdict.Address) × Na
 
 -- a clipped frame that is not empty
 pub record ClipIn (c : Clip) : Type 0 where
-  pub y : c .y ≤ 8192
-  pub height : c .height ≤ 4092
+  pub y : quarters (c .y) ≤ 8192
+  pub height : quarters (c .height) ≤ 4095

@@ -1,11 +1,12 @@
 // One step of a scaled plan: the entry that is due, and where the plan stands after it.
 ghost use mathlib.Core.Path.{_≡_};
 ghost use mathlib.Core.Bool.{cond};
-ghost use Prim.Native.Nat.{_+_, _*_, _/_, _≤_, _<_, _^_};
+ghost use Prim.Native.Nat.{_/_, _≤_, _^_};
 ghost use lib.Dec.{eqb};
 ghost use lib.IntN.{pos, _-ℤ_};
 ghost use Rattle.signed.specs.Cast.{u16, i16};
-ghost use Rattle.object.specs.Range.{Within};
+ghost use Rattle.object.specs.Measure.{quarters, ofTexels};
+ghost use Rattle.object.specs.Range.{Below, Within};
 ghost use Rattle.plan.specs.Out.{planOut};
 ghost use Rattle.plan.specs.Sound.{SoundScaled, SoundFirst};
 ghost use Rattle.plan.specs.Scaled.{tile7 as tile7Of, lrsOf, lrtOf, rectOf, scaledPlan};
@@ -29,6 +30,7 @@ use crate::types::Sum;
 use crate::types::Turn;
 use crate::walk::drawn;
 use crate::walk::next_pass;
+use object::Quarters;
 use object::Verdict;
 use plan::Clip;
 use plan::Entry;
@@ -104,7 +106,8 @@ fn right(width: i64) -> u16
     requires { ⌜ Within 47 width ⌝ }
     ensures { λ r. ⌜ r ≡ lrsOf width ⌝ }
 {
-    signed::low16((width - 1) * 16)
+    let q = object::of_words(width - 1);
+    signed::low16(q.0)
 }
 
 // A load's lower bound; with 32 bits a load has one row.
@@ -115,7 +118,8 @@ fn lower(z: Scaled, rows: i64) -> u16
     if z.siz == 3 {
         return 0;
     }
-    signed::low16(rows * 4 - 1)
+    let q = object::of_texels(rows);
+    signed::low16(q.0 - 1)
 }
 
 // The load of a part, or the size that a refused load has set.
@@ -164,6 +168,22 @@ fn short(x: i64) -> i64
     signed::wide(signed::signed16(x))
 }
 
+// A frame position that is known not to be negative, so that no test is needed.
+fn position(q: Quarters) -> u64
+    requires { ⌜ Below 62 (q .0) ⌝ }
+    ensures { λ r. ⌜ r ≡ quarters q ⌝ }
+{
+    q.0 as u64
+}
+
+// Where a line of the frame lies.
+fn line_at(line: u64) -> u64
+    requires { ⌜ line ≤ 2 ^ 40 ⌝ }
+    ensures { λ r. ⌜ r ≡ ofTexels line ⌝ }
+{
+    position(object::of_texels(line as i64))
+}
+
 // The rectangle of a pass, with the image row before its loads.
 fn rect(p: Place) -> Entry
     requires { ⌜ SoundPass p ⌝ }
@@ -176,14 +196,14 @@ fn rect(p: Place) -> Entry
     let rows = z.source_rows as i64 - source.remain;
     Entry::Rect {
         tile: 0,
-        ulx: z.x,
-        uly: y * 4,
-        lrx: z.x_end,
-        lry: (y + p.lines) * 4,
-        uls: short(z.s),
-        ult: short(w.t as i64),
-        dsdx: short(z.scale_w as i64),
-        dtdy: short(z.scale_h as i64),
+        ulx: position(z.x),
+        uly: line_at(y),
+        lrx: position(z.x_end),
+        lry: line_at(y + p.lines),
+        uls: short(z.s.0),
+        ult: short(w.t.0),
+        dsdx: short(z.scale_w.0 as i64),
+        dtdy: short(z.scale_h.0 as i64),
         row: signed::wrapped(rows, z.source_rows),
     }
 }
@@ -327,13 +347,15 @@ pub fn scaled_start(z: Scaled, c: Clip, f: First) -> Reached
     };
     let remain = less(z.source_rows as i64, f.image_row);
     let source = Source { pointer, remain };
-    let left = (c.height / 4) as i64;
+    let left = object::texels(c.height) as i64;
+    let frame_y = object::texels(c.y);
+    let t = f.t;
     let walk = Walk {
-        frame_y: c.y / 4,
+        frame_y,
         frame_remain: left,
         count: f.count,
         slice_rows: f.slice_rows,
-        t: f.t,
+        t,
         source,
     };
     let part = Part {

@@ -1,13 +1,13 @@
 // The passes: those without a line are passed over, and one that draws begins.
 ghost use mathlib.Core.Path.{_≡_};
 ghost use Prim.Native.Nat.{_+_, _*_, _≤_, _<_, _^_};
-ghost use lib.IntN.{pos, negℤ};
+ghost use lib.IntN.{pos};
 ghost use lib.Signed.{_≤ℤ_};
 ghost use Rattle.signed.specs.Diff.{up};
 ghost use Rattle.object.specs.Range.{Within};
 ghost use Rattle.plan.specs.Out.{planOut};
 ghost use Rattle.plan.specs.Sound.{SoundScaled};
-ghost use Rattle.plan.specs.Scaled.{drawOf, leftAfter, linesOf, rowsOf, nextPass, afterDraw};
+ghost use Rattle.plan.specs.Scaled.{drawOf, nextPass, afterDraw};
 ghost use Rattle.passes.specs.Coming.{passesOf};
 ghost use Rattle.passes.specs.Sound.{SoundWalk, SoundRect, Runs, Begins, cutLines, cutRows, dueLines};
 use crate::rows::less;
@@ -20,6 +20,7 @@ use crate::types::Begun;
 use crate::types::Moved;
 use crate::types::Piece;
 use crate::types::Place;
+use object::ThirtySeconds;
 use object::Verdict;
 use plan::Scaled;
 use plan::Source;
@@ -30,7 +31,7 @@ fn lines_due(count: i64) -> u64
     requires { ⌜ count ≤ℤ pos (2 ^ 31) ⌝ }
     ensures { λ r. ⌜ (r ≡ dueLines count) × (r ≤ 2 ^ 21) ⌝ }
 {
-    signed::positive(signed::shift10(count))
+    signed::positive(object::signed_whole(count))
 }
 
 // The walk before the next pass.
@@ -41,12 +42,13 @@ fn next_walk(z: Scaled, y: u64, left: i64, count: i64, source: Source) -> Walk
 {
     let count = plus(count, z.frame_rows);
     let rows = z.image_rows as i64;
+    let t = ThirtySeconds(0);
     Walk {
         frame_y: y,
         frame_remain: left,
         count,
         slice_rows: rows,
-        t: 0,
+        t,
         source,
     }
 }
@@ -70,7 +72,7 @@ fn cut_rows(z: Scaled, rows: i64, left: i64) -> i64
     ensures { λ r. ⌜ r ≡ cutRows z rows left ⌝ }
 {
     if left < 0 {
-        let over = signed::shift10(times(left, z.scale_h));
+        let over = object::signed_whole(times(left, z.scale_h.0));
         let cut = plus(sum(rows, over), 1);
         let most = z.image_rows as i64;
         if cut <= most { cut } else { most }

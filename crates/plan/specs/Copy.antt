@@ -2,21 +2,17 @@
 -- After the test for an empty frame nothing here is negative, and every difference of naturals is of a number and one that is no greater.
 -- Assumes nothing.
 use mathlib.Core.Bool.{Bool, true, false, cond, _||_}
-use mathlib.Core.List.{List, [], _∷_}
 use Prim.Native.Nat.{ℕ, zero, suc, _+_, _-_, _*_, _/_, _%_, _^_, min, max}
 use lib.Dec.{ltb, eqb}
-use lib.IntN.{ℤ, pos, negℤ, _+ℤ_, _-ℤ_, _*ℤ_}
+use lib.IntN.{ℤ, pos, negℤ, _+ℤ_, _-ℤ_}
 use Rattle.signed.specs.Diff.{up}
 use Rattle.signed.specs.Floor.{modulo}
-use Rattle.signed.specs.Cast.{minZ, u16, i16}
+use Rattle.signed.specs.Cast.{minZ, i16}
 use Rattle.object.specs.declared.types.Scissor.{Scissor}
-use Rattle.plan.specs.Request.{edge}
 use Rattle.object.specs.declared.types.ObjBg.{ObjBg}
-use Rattle.object.specs.Measure.{quarters, thirtySeconds, texels, wholeTexels}
-use Rattle.plan.specs.declared.types.Entry.{Entry}
+use Rattle.object.specs.Measure.{quarters, thirtySeconds, texels, ofTexels, edge, wholeTexels, inQuarters, rowsHigh}
 use Rattle.plan.specs.Out.{Out, _>>=_, _>>_, yield, emit, refuse}
-use Rattle.plan.specs.declared.types.Entry.the-variants.{Image, Tile, Size, Load, Rect}
-use Rattle.plan.specs.Out.Out.{go}
+use Rattle.plan.specs.declared.types.Entry.the-variants.{Image, Tile, Size, Rect}
 use Rattle.plan.specs.declared.types.Copy.{Copy}
 use Rattle.plan.specs.declared.types.Strip.{Strip}
 use Rattle.object.specs.declared.types.Verdict.the-variants as verdict
@@ -26,13 +22,13 @@ use Rattle.plan.specs.Load.{loadTile}
 abbrev pub copyCapacity : ℕ → ℕ → ℕ
 copyCapacity fmt siz = cond (eqb fmt 2 || eqb siz 3) 256 512
 
--- R 417–419, 431–439, 460–469: the frame clipped by the scissor in cells of 4 units, and where it starts in the image
+-- R 417–419, 431–439, 460–469: the frame clipped by the scissor in cells of 4 quarters, and where it starts in the image
 unfoldable pub copyOf : ObjBg → Scissor → (address : ℕ) → Copy
 copyOf bg s address =
-    let left = max (up (bg .«frame_x» .0)) (edge (s .ulx) * 4) in
-    let top = max (up (bg .«frame_y» .0)) (edge (s .uly) * 4) in
-    let right = minZ (bg .«frame_x» .0 +ℤ pos (quarters (bg .«frame_w»))) (pos (edge (s .lrx) * 4)) in
-    let bottom = minZ (bg .«frame_y» .0 +ℤ pos (quarters (bg .«frame_h»))) (pos (edge (s .lry) * 4)) in
+    let left = max (up (bg .«frame_x» .0)) (edge (s .ulx)) in
+    let top = max (up (bg .«frame_y» .0)) (edge (s .uly)) in
+    let right = minZ (bg .«frame_x» .0 +ℤ pos (quarters (bg .«frame_w»))) (pos (edge (s .lrx))) in
+    let bottom = minZ (bg .«frame_y» .0 +ℤ pos (quarters (bg .«frame_h»))) (pos (edge (s .lry))) in
     record {
       fmt = bg .«image_fmt»;
       siz = bg .«image_siz»;
@@ -43,8 +39,8 @@ copyOf bg s address =
       «image_width» = texels (quarters (bg .«image_w»));
       «image_height» = texels (quarters (bg .«image_h»));
       «frame_cells» = texels (quarters (bg .«frame_w»));
-      left = left;
-      top = top;
+      left = inQuarters (pos left);
+      top = inQuarters (pos top);
       width = texels (up (right -ℤ pos left));
       height = texels (up (bottom -ℤ pos top));
       «source_x» = wholeTexels (thirtySeconds (bg .«image_x»));
@@ -86,7 +82,7 @@ stripOf c x =
 
 -- a bound of n texels, in quarters: (n * 4) as u16
 abbrev pub bound : ℕ → ℕ
-bound n = n * 4 % 2 ^ 16
+bound n = ofTexels n % 2 ^ 16
 
 -- R 494–549: tile 7, tile 0, size of 0, load into 7, rectangle; D "Rectangle ends are inclusive"
 unfoldable pub stripEntries : Copy → (y sy strip-height x : ℕ) → Strip → Out (Unit {0})
@@ -97,8 +93,8 @@ stripEntries c y sy strip-height x s =
     >> emit (Size 0 0 0 (bound (s .«load_width» - 1)) (bound (strip-height - 1)))
     >> loadTile (c .siz) (field c) (c .address) 7 (bound (s .«aligned_left»)) (bound sy) (bound (s .«aligned_left» + s .«load_width» - 1)) (bound (sy + strip-height - 1))
     >> emit
-    (Rect 0 (c .left + x * 4) (c .top + y * 4) (c .left + (x + s .«strip_width» - 1) * 4) (c .top + (y + strip-height - 1) * 4)
-    (i16 (cond (c .flip) (negℤ (pos (s .«load_width»))) (pos (s .offset)) *ℤ pos 32)) (pos 0) (pos 0x1000) (pos 0x400) sy)
+    (Rect 0 (quarters (c .left) + ofTexels x) (quarters (c .top) + ofTexels y) (quarters (c .left) + ofTexels (x + s .«strip_width» - 1)) (quarters (c .top) + ofTexels (y + strip-height - 1))
+    (i16 (rowsHigh (cond (c .flip) (negℤ (pos (s .«load_width»))) (pos (s .offset))) .0)) (pos 0) (pos 0x1000) (pos 0x400) sy)
 
 -- R 490–493: D 7 "a copy strip's line × height exceeds capacity"
 unfoldable pub strip : Copy → (y sy strip-height x : ℕ) → Strip → Out ℕ

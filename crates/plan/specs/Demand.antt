@@ -10,7 +10,7 @@ use lib.IntN.{ℤ, pos, negℤ, _+ℤ_, _-ℤ_, _*ℤ_}
 use lib.Signed.{ltZ, leZ, _≤ℤ_}
 use Rattle.signed.specs.Diff.{up}
 use Rattle.signed.specs.Floor.{floorDiv, modulo}
-use Rattle.object.specs.Measure.{quarters, thirtySeconds, sampledBy}
+use Rattle.object.specs.Measure.{quarters, thirtySeconds, texels, wholeRows, sampledBy, whole}
 use Rattle.object.specs.Layout.{decode}
 use Rattle.plan.specs.Request.{Request}
 use Rattle.plan.specs.declared.types.Entry.{Entry}
@@ -42,17 +42,17 @@ driftOf q =
     let z = scaledOf bg (q .mode) (q .address) c i in
     let f = firstOf z i in
     record {
-      h = z .«scale_h»;
+      h = z .«scale_h» .0;
       image-h = quarters (bg .«image_h»);
       source-rows = z .«source_rows»;
       image-rows = z .«image_rows»;
       frame-rows = z .«frame_rows»;
-      first-rows = floorDiv (f .«image_hidden») 1024;
+      first-rows = whole (f .«image_hidden»);
       carry = i .carry;
       slice = f .slice;
       count = f .count;
-      lines = c .height / 4;
-      start = thirtySeconds (bg .«image_y») + sampledBy (c .top) (z .«scale_h»);
+      lines = texels (quarters (c .height));
+      start = thirtySeconds (bg .«image_y») + sampledBy (quarters (c .top)) (z .«scale_h» .0);
       origin = bg .«image_y_orig» .0;
     }
 
@@ -60,7 +60,7 @@ driftOf q =
 unfoldable pub strips : ℕ → (frame-rows : ℕ) → (k frame-remain count : ℤ) → List ℤ
 strips zero f k left count = []
 strips (suc n) f k left count =
-    let draw = up (floorDiv count 1024) in
+    let draw = up (whole count) in
     elim (ltZ (pos 0) left) [
       | true ↦ elim (eqb draw 0) [
         | true ↦ strips n f (k +ℤ pos 1) left (count +ℤ pos f)
@@ -82,7 +82,7 @@ exact d earlier j = pos (32 * (d .start + 32 * d .carry) + d .h * (j + earlier))
 
 -- the whole images that strip k lies below the origin's: the fixed m of "for some whole m"
 abbrev pub wholes : Drift → (k : ℤ) → ℤ
-wholes d k = floorDiv (pos (d .image-rows) *ℤ k +ℤ floorDiv (d .origin) 32 +ℤ pos (d .carry) +ℤ cond (leZ k (d .slice)) (d .first-rows) (pos 0)) (d .source-rows)
+wholes d k = floorDiv (pos (d .image-rows) *ℤ k +ℤ wholeRows (d .origin) +ℤ pos (d .carry) +ℤ cond (leZ k (d .slice)) (d .first-rows) (pos 0)) (d .source-rows)
 
 -- D "d = sampled − exact + 256 × image_h × m"
 abbrev pub ahead : Drift → (k : ℤ) → (row : ℕ) → (ult : ℤ) → (earlier j : ℕ) → ℤ

@@ -2,9 +2,7 @@
 -- Assumes nothing.
 use mathlib.Core.List.{List}
 use Prim.Native.Nat.{ℕ}
-use lib.IntN.{ℤ}
 use Rattle.object.specs.declared.types.Scissor.{Scissor}
-use Rattle.signed.specs.Diff.{up}
 
 -- D "The domain": the object's bytes, the opcode, the scissor, the render mode, the resolved image address
 pub record Request : Type 0 where
@@ -13,7 +11,3 @@ pub record Request : Type 0 where
   pub scissor : Scissor
   pub mode : ℕ
   pub address : ℕ
-
--- a scissor edge, which is never negative after check 3, in units
-abbrev pub edge : ℤ → ℕ
-edge z = up z

@@ -2,21 +2,19 @@
 -- What can be negative is a ℤ. A natural difference stands for max(0, ·) only where the Rust tests or cuts the number at 0.
 -- Assumes nothing.
 use mathlib.Core.Bool.{Bool, true, false, cond, _||_}
-use mathlib.Core.List.{List, [], _∷_}
-use Prim.Native.Nat.{ℕ, zero, suc, _+_, _-_, _*_, _/_, _%_, _^_, min, max}
-use lib.Dec.{ltb, leb, eqb}
+use Prim.Native.Nat.{ℕ, zero, suc, _+_, _-_, _*_, _/_, _%_, _^_, min}
+use lib.Dec.{leb, eqb}
 use lib.IntN.{ℤ, pos, negℤ, _+ℤ_, _-ℤ_, _*ℤ_}
 use lib.Signed.{ltZ, leZ}
 use Rattle.signed.specs.Diff.{up}
 use Rattle.signed.specs.Floor.{floorDiv, modulo}
 use Rattle.signed.specs.Cast.{minZ, clearLow, u16, i16}
 use Rattle.object.specs.declared.types.Scissor.{Scissor}
-use Rattle.plan.specs.Request.{edge}
 use Rattle.object.specs.declared.types.ObjBg.{ObjBg}
-use Rattle.object.specs.Measure.{quarters, thirtySeconds, wholeTexels, inImage, sampledBy, shownAt}
+use Rattle.object.specs.Measure.{quarters, thirtySeconds, texels, ofTexels, edge, wholeTexels, ofRows, wholeRows, inImage, sampledBy, shownAt, linesAt, ofPosition, ofLines, whole, inQuarters, inThirtySeconds, extent, texelsWide, wordsWide, rowPart}
 use Rattle.plan.specs.declared.types.Entry.{Entry}
 use Rattle.plan.specs.Out.{Out, _>>=_, _>>_, yield, emit, refuse}
-use Rattle.plan.specs.declared.types.Entry.the-variants.{Image, Tile, Size, Load, Rect}
+use Rattle.plan.specs.declared.types.Entry.the-variants.{Image, Tile, Size, Rect}
 use Rattle.plan.specs.declared.types.Clip.{Clip}
 use Rattle.plan.specs.declared.types.Start.{Start}
 use Rattle.plan.specs.declared.types.Scaled.{Scaled}
@@ -39,38 +37,38 @@ clipOf bg s =
     let flip = eqb (bg .«image_flip» % 2) 1 in
     let x = bg .«frame_x» .0 +ℤ pos (cond flip removed-w 0) in
     let y = bg .«frame_y» .0 in
-    let left = up (pos (edge (s .ulx) * 4) -ℤ x) in
-    let top = up (pos (edge (s .uly) * 4) -ℤ y) in
-    let right = up (width -ℤ pos (edge (s .lrx) * 4) +ℤ x) in
-    let bottom = up (height -ℤ pos (edge (s .lry) * 4) +ℤ y) in
+    let left = up (pos (edge (s .ulx)) -ℤ x) in
+    let top = up (pos (edge (s .uly)) -ℤ y) in
+    let right = up (width -ℤ pos (edge (s .lrx)) +ℤ x) in
+    let bottom = up (height -ℤ pos (edge (s .lry)) +ℤ y) in
     record {
       flip = flip;
-      left = left;
-      top = top;
-      right = right;
-      x = up (x +ℤ pos left);
-      y = up (y +ℤ pos top);
-      width = up (width -ℤ pos (left + right));
-      height = up (height -ℤ pos (top + bottom));
+      left = inQuarters (pos left);
+      top = inQuarters (pos top);
+      right = inQuarters (pos right);
+      x = extent (x +ℤ pos left);
+      y = extent (y +ℤ pos top);
+      width = extent (width -ℤ pos (left + right));
+      height = extent (height -ℤ pos (top + bottom));
     }
 
 -- R 257 `width <= 0 || height <= 0`
 abbrev pub scaledEmpty : Clip → Bool
-scaledEmpty c = eqb (c .width) 0 || eqb (c .height) 0
+scaledEmpty c = eqb (quarters (c .width)) 0 || eqb (quarters (c .height)) 0
 
 -- R 263–264, 268–277
 unfoldable pub startOf : ObjBg → Clip → Start
 startOf bg c =
     let source-w = inImage (quarters (bg .«image_w»)) in
     let source-h = inImage (quarters (bg .«image_h»)) in
-    let image-x = thirtySeconds (bg .«image_x») + sampledBy (cond (c .flip) (c .right) (c .left)) (bg .«scale_w» .0) in
+    let image-x = thirtySeconds (bg .«image_x») + sampledBy (quarters (cond (c .flip) (c .right) (c .left))) (bg .«scale_w» .0) in
     let carry = image-x / source-w in
-    let image-y = thirtySeconds (bg .«image_y») + sampledBy (c .top) (bg .«scale_h» .0) + carry * 32 in
+    let image-y = thirtySeconds (bg .«image_y») + sampledBy (quarters (c .top)) (bg .«scale_h» .0) + ofRows carry in
     let wrap = image-y / source-h in
     record {
-      «image_x» = image-x % source-w;
-      «image_y» = image-y % source-h;
-      origin = bg .«image_y_orig» .0 +ℤ pos (carry * 32) -ℤ pos (wrap * source-h);
+      «image_x» = inThirtySeconds (pos (image-x % source-w));
+      «image_y» = inThirtySeconds (pos (image-y % source-h));
+      origin = inThirtySeconds (bg .«image_y_orig» .0 +ℤ pos (ofRows carry) -ℤ pos (wrap * source-h));
       carry = carry;
       wrap = wrap;
     }
@@ -82,36 +80,35 @@ scaledCapacity fmt siz = cond (eqb siz 3) 480 (cond (eqb fmt 2) 256 512)
 -- R 260, 265–267, 278–293, 321–326. `image-rows` is 0 where the Rust's is at most 0
 unfoldable pub scaledOf : ObjBg → (mode address : ℕ) → Clip → Start → Scaled
 scaledOf bg mode address c i =
-    let scale-w = bg .«scale_w» .0 in
-    let scale-h = bg .«scale_h» .0 in
     let source-w = inImage (quarters (bg .«image_w»)) in
     let bilerp = mode / 8 % 2 in
-    let image-width = sampledBy (c .width) scale-w in
+    let image-x = thirtySeconds (i .«image_x») in
+    let image-width = sampledBy (quarters (c .width)) (bg .«scale_w» .0) in
     let shift = 512 / 2 ^ bg .«image_siz» in
     let three = eqb (bg .«image_siz») 3 in
     let capacity = scaledCapacity (bg .«image_fmt») (bg .«image_siz») in
-    let max-slice : ℕ = cond three 0x2800 (min (sampledBy (quarters (bg .«frame_w»)) scale-w + bilerp * 32) source-w) in
+    let max-slice : ℕ = cond three 0x2800 (min (sampledBy (quarters (bg .«frame_w»)) (bg .«scale_w» .0) + ofRows bilerp) source-w) in
     let line = (max-slice + (shift - 1)) / shift + 1 in
     let image-rows = capacity / line - bilerp in
-    let s = i .«image_x» % shift in
+    let s = image-x % shift in
     record {
       fmt = bg .«image_fmt»;
       siz = bg .«image_siz»;
       palette = bg .«image_pal» % 256;
       address = address;
       x = c .x;
-      «x_end» = c .x + c .width;
-      «scale_w» = scale-w;
-      «scale_h» = scale-h;
+      «x_end» = inQuarters (c .x .0 +ℤ c .width .0);
+      «scale_w» = bg .«scale_w»;
+      «scale_h» = bg .«scale_h»;
       bilerp = bilerp;
-      split = cond (leb source-w (i .«image_x» + (image-width + bilerp * 32))) 1 0;
+      split = cond (leb source-w (image-x + (image-width + ofRows bilerp))) 1 0;
       «source_rows» = wholeTexels (inImage (quarters (bg .«image_h»)));
       line = line;
       «image_rows» = image-rows;
-      «frame_rows» = image-rows * 2 ^ 20 / scale-h;
+      «frame_rows» = linesAt image-rows (bg .«scale_h» .0);
       stride = source-w / shift * 8;
-      «x_offset» = i .«image_x» / shift * 8;
-      s = cond (c .flip) (negℤ (pos (s + image-width))) (pos s);
+      «x_offset» = image-x / shift * 8;
+      s = inThirtySeconds (cond (c .flip) (negℤ (pos (s + image-width))) (pos s));
     }
 
 -- R 294, D 6 "image_h under 4, R at most 0, or stride 0" (`frame_rows <= 0` needs R at most 0)
@@ -121,19 +118,19 @@ slicesBad z = eqb (z .«source_rows») 0 || (eqb (z .«image_rows») 0 || eqb (z
 -- R 298–311; D "A negative distance from the origin is rounded toward minus infinity"
 unfoldable pub firstOf : Scaled → Start → First
 firstOf z i =
-    let image-offset = (pos (i .«image_y») -ℤ i .origin) *ℤ pos 32 in
-    let frame-offset = floorDiv image-offset (z .«scale_h») *ℤ pos 1024 in
+    let image-offset = ofPosition (i .«image_y» .0 -ℤ i .origin .0) in
+    let frame-offset = ofLines (floorDiv image-offset (z .«scale_h» .0)) in
     let slice = floorDiv frame-offset (z .«frame_rows») in
     let slice-start = pos (z .«frame_rows») *ℤ slice in
     let hidden = frame-offset -ℤ clearLow slice-start 1024 in
-    let image-hidden = floorDiv hidden 1024 *ℤ pos (z .«scale_h») in
+    let image-hidden = whole hidden *ℤ pos (z .«scale_h» .0) in
     record {
       slice = slice;
       «image_hidden» = image-hidden;
       count = pos (modulo slice-start 1024) +ℤ pos (z .«frame_rows») -ℤ hidden;
-      t = modulo (floorDiv image-hidden 32) 32;
-      «slice_rows» = pos (z .«image_rows») -ℤ floorDiv image-hidden 1024;
-      «image_row» = modulo (pos (z .«image_rows») *ℤ slice +ℤ floorDiv (i .origin) 32 +ℤ floorDiv image-hidden 1024) (z .«source_rows»);
+      t = rowPart image-hidden;
+      «slice_rows» = pos (z .«image_rows») -ℤ whole image-hidden;
+      «image_row» = modulo (pos (z .«image_rows») *ℤ slice +ℤ wholeRows (i .origin .0) +ℤ whole image-hidden) (z .«source_rows»);
     }
 
 -- R 133: the loads' texels are of 16 bits, or of 32 for siz 3
@@ -150,10 +147,10 @@ fieldOf z = u16 (pos (z .stride / 2) -ℤ pos 1)
 
 -- R 149–157: the load's right and lower bound; with 32 bits a load has one row
 abbrev pub lrsOf : ℤ → ℕ
-lrsOf width = u16 ((width -ℤ pos 1) *ℤ pos 16)
+lrsOf width = u16 (wordsWide (width -ℤ pos 1) .0)
 
 abbrev pub lrtOf : Scaled → ℤ → ℕ
-lrtOf z rows = cond (eqb (z .siz) 3) 0 (u16 (rows *ℤ pos 4 -ℤ pos 1))
+lrtOf z rows = cond (eqb (z .siz) 3) 0 (u16 (texelsWide rows .0 -ℤ pos 1))
 
 abbrev pub loadRows : Scaled → (pointer : ℕ) → (rows width : ℤ) → Out (Unit {0})
 loadRows z pointer rows width = loadTile (sizeOf z) (fieldOf z) pointer 7 0 0 (lrsOf width) (lrtOf z rows)
@@ -230,7 +227,7 @@ load1cyc z src draw-rows =
 -- R 407–409: the walk after a pass
 abbrev pub nextPass : Scaled → (frame-y : ℕ) → (frame-remain count : ℤ) → Source → Walk
 nextPass z frame-y frame-remain count source =
-    record { «frame_y» = frame-y; «frame_remain» = frame-remain; count = count +ℤ pos (z .«frame_rows»); «slice_rows» = pos (z .«image_rows»); t = 0; source = source }
+    record { «frame_y» = frame-y; «frame_remain» = frame-remain; count = count +ℤ pos (z .«frame_rows»); «slice_rows» = pos (z .«image_rows»); t = inThirtySeconds (pos 0); source = source }
 
 -- D "each scaled rectangle carries its image row, (`source_rows` − `remain`) modulo `source_rows`"
 abbrev pub rowOf : Scaled → ℤ → ℕ
@@ -247,12 +244,12 @@ linesOf w draw = cond (ltZ (leftAfter w draw) (pos 0)) (up (pos draw +ℤ leftAf
 -- R 369–370: the rows of the pass, fewer at the end
 abbrev pub rowsOf : Scaled → Walk → (draw : ℕ) → ℤ
 rowsOf z w draw =
-    cond (ltZ (leftAfter w draw) (pos 0)) (minZ (w .«slice_rows» +ℤ floorDiv (leftAfter w draw *ℤ pos (z .«scale_h»)) 1024 +ℤ pos 1) (pos (z .«image_rows»))) (w .«slice_rows»)
+    cond (ltZ (leftAfter w draw) (pos 0)) (minZ (w .«slice_rows» +ℤ whole (leftAfter w draw *ℤ pos (z .«scale_h» .0)) +ℤ pos 1) (pos (z .«image_rows»))) (w .«slice_rows»)
 
 -- R 388–404
 abbrev pub rectOf : Scaled → Walk → (lines : ℕ) → Entry
 rectOf z w lines =
-    Rect 0 (z .x) (w .«frame_y» * 4) (z .«x_end») ((w .«frame_y» + lines) * 4) (i16 (z .s)) (i16 (pos (w .t))) (i16 (pos (z .«scale_w»))) (i16 (pos (z .«scale_h»))) (rowOf z (w .source .remain))
+    Rect 0 (quarters (z .x)) (ofTexels (w .«frame_y»)) (quarters (z .«x_end»)) (ofTexels (w .«frame_y» + lines)) (i16 (z .s .0)) (i16 (w .t .0)) (i16 (pos (z .«scale_w» .0))) (i16 (pos (z .«scale_h» .0))) (rowOf z (w .source .remain))
 
 -- R 365, 405–409: the walk after a pass that draws
 abbrev pub afterDraw : Scaled → Walk → (draw lines : ℕ) → Source → Walk
@@ -269,7 +266,7 @@ idlePass z w = advance z (w .source) (w .«slice_rows») >>= (λ source. yield (
 
 -- R 354: the lines that a pass draws, 0 where the Rust's number is at most 0
 abbrev pub drawOf : Walk → ℕ
-drawOf w = up (floorDiv (w .count) 1024)
+drawOf w = up (whole (w .count))
 
 -- R 354–355 `draw <= 0`
 unfoldable pub pass : Scaled → Walk → Out Walk
@@ -287,7 +284,7 @@ passes (suc n) z w =
 -- R 261–262, 307–309, 352: the walk before the first pass
 abbrev pub firstPass : Scaled → Clip → First → ℕ → Walk
 firstPass z c f p =
-    record { «frame_y» = c .y / 4; «frame_remain» = pos (c .height / 4); count = f .count; «slice_rows» = f .«slice_rows»; t = f .t; source = record { pointer = p; remain = pos (z .«source_rows») -ℤ pos (f .«image_row») } }
+    record { «frame_y» = texels (quarters (c .y)); «frame_remain» = pos (texels (quarters (c .height))); count = f .count; «slice_rows» = f .«slice_rows»; t = f .t; source = record { pointer = p; remain = pos (z .«source_rows») -ℤ pos (f .«image_row») } }
 
 -- R 321–411: three entries, then passes; D "At most 64 passes in a row draw no line", so that 65 for each line are enough
 unfoldable pub scaledPlan : Scaled → Clip → First → Out (Unit {0})
@@ -296,4 +293,4 @@ scaledPlan z c f =
     emit (tile7 z (pos 0))
     >> emit (Tile 0 (z .fmt) (z .siz) (z .line % 2 ^ 16) 0 (z .palette) 1 1 15 15)
     >> emit (Size 0 0 0 0 0)
-    >> passes (65 * (c .height / 4)) z (firstPass z c f p))
+    >> passes (65 * texels (quarters (c .height))) z (firstPass z c f p))

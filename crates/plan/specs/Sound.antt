@@ -2,10 +2,11 @@
 -- Assumes nothing.
 use mathlib.Core.Path.{_≡_}
 use mathlib.Core.Bool.{cond}
-use Prim.Native.Nat.{ℕ, _+_, _/_, _^_, _≤_, _<_}
+use Prim.Native.Nat.{ℕ, _/_, _^_, _≤_, _<_}
 use lib.Dec.{eqb}
 use lib.IntN.{ℤ, pos, negℤ}
 use lib.Signed.{_≤ℤ_}
+use Rattle.object.specs.Range.{Below}
 use Rattle.plan.specs.declared.types.Copy.{Copy}
 use Rattle.plan.specs.declared.types.Scaled.{Scaled}
 use Rattle.plan.specs.declared.types.First.{First}
@@ -24,8 +25,8 @@ pub record SoundCopy (c : Copy) : Type 0 where
   pub image-height : 1 ≤ c .«image_height»
   pub image-height′ : c .«image_height» ≤ 16383
   pub frame-cells : c .«frame_cells» ≤ 16383
-  pub left : c .left ≤ 4092
-  pub top : c .top ≤ 4092
+  pub left : Below 12 (c .left .0)
+  pub top : Below 12 (c .top .0)
   pub width : 1 ≤ c .width
   pub width′ : c .width ≤ 1023
   pub height : 1 ≤ c .height
@@ -52,13 +53,13 @@ pub record SoundScaled (z : Scaled) : Type 0 where
   pub x-offset : z .«x_offset» ≤ 65535
   pub source-rows : 1 ≤ z .«source_rows»
   pub source-rows′ : z .«source_rows» ≤ 16383
-  pub scale-h : 1 ≤ z .«scale_h»
-  pub scale-h′ : z .«scale_h» ≤ 65535
-  pub scale-w′ : z .«scale_w» ≤ 65535
+  pub scale-h : 1 ≤ z .«scale_h» .0
+  pub scale-h′ : z .«scale_h» .0 ≤ 65535
+  pub scale-w′ : z .«scale_w» .0 ≤ 65535
   pub bilerp : z .bilerp ≤ 1
   pub split : z .split ≤ 1
-  pub x : z .x ≤ 4092
-  pub x-end : z .«x_end» ≤ 8192
+  pub x : Below 12 (z .x .0)
+  pub x-end : Below 14 (z .«x_end» .0)
 
 -- the first strip of such a plan
 pub record SoundFirst (z : Scaled) (f : First) : Type 0 where
@@ -66,7 +67,7 @@ pub record SoundFirst (z : Scaled) (f : First) : Type 0 where
   pub count′ : f .count ≤ℤ pos (2 ^ 30)
   pub slice-rows : negℤ (pos (2 ^ 27)) ≤ℤ f .«slice_rows»
   pub slice-rows′ : f .«slice_rows» ≤ℤ pos 512
-  pub t : f .t ≤ 31
+  pub t : Below 5 (f .t .0)
   pub image-row : f .«image_row» < z .«source_rows»
 
 -- the rows that an entry loads, and the line that it sets

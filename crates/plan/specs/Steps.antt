@@ -1,11 +1,10 @@
 -- What is claimed of steps: n steps from a fresh planner answer the plan's first n entries and then its end for ever, and the bank is the fold over the entries given.
 -- `Gives` is what a planner's definition has to show, once for each step; `steps-give` is the claim from it, for any planner.
 -- Assumes nothing.
-use mathlib.Core.Path.{_≡_, refl, sym, ap, _∙_}
-use mathlib.Core.List.{List, [], _∷_, _++_, map}
+use mathlib.Core.Path.{_≡_, refl, ap, _∙_}
+use mathlib.Core.List.{List, [], _∷_}
 use Prim.Native.Nat.{ℕ, zero, suc}
-use lib.ListN.{take, replicate}
-use Rattle.plan.specs.Request.{Request, edge}
+use Rattle.plan.specs.Request.{Request}
 use Rattle.plan.specs.declared.types.Entry.{Entry}
 use Rattle.plan.specs.Out.{Plan}
 use Rattle.plan.specs.declared.types.Answer.{Answer}
@@ -13,7 +12,7 @@ use Rattle.plan.specs.declared.types.Answer.the-variants as answer
 use Rattle.tile.specs.declared.bank.Bank.{Bank}
 use Rattle.plan.specs.Whole.{planOf}
 use Rattle.plan.specs.declared.types.End.{End}
-use Rattle.plan.specs.Run.{Ran, endOf, bankAfter, bankStep, bankOf, runOf}
+use Rattle.plan.specs.Run.{Ran, endOf, bankAfter, bankStep, runOf}
 
 pub record Stepped (P : Type 0) : Type 0 where
   pub planner : P

@@ -1,4 +1,7 @@
 // The entries and ends of plans, and the numbers of both planners, with the names of the Rust.
+use object::Quarters;
+use object::Scale;
+use object::ThirtySeconds;
 use object::Verdict;
 
 // One entry of a plan. Its numbers have 64 bits, as a host gets them: the compiler would pack and unpack narrower ones at every step.
@@ -68,7 +71,7 @@ pub enum Answer {
     End(End),
 }
 
-// What no strip of a copy plan changes, in cells of 4 units.
+// What no strip of a copy plan changes; widths, heights, columns and rows count cells of 4 quarters.
 pub struct Copy {
     pub fmt: u64,
     pub siz: u64,
@@ -79,8 +82,8 @@ pub struct Copy {
     pub image_width: u64,
     pub image_height: u64,
     pub frame_cells: u64,
-    pub left: u64,
-    pub top: u64,
+    pub left: Quarters,
+    pub top: Quarters,
     pub width: u64,
     pub height: u64,
     pub source_x: u64,
@@ -99,37 +102,37 @@ pub struct Strip {
     pub line: u64,
 }
 
-// A scaled frame clipped by the scissor, in units.
+// A scaled frame clipped by the scissor.
 pub struct Clip {
     pub flip: bool,
-    pub left: u64,
-    pub top: u64,
-    pub right: u64,
-    pub x: u64,
-    pub y: u64,
-    pub width: u64,
-    pub height: u64,
+    pub left: Quarters,
+    pub top: Quarters,
+    pub right: Quarters,
+    pub x: Quarters,
+    pub y: Quarters,
+    pub width: Quarters,
+    pub height: Quarters,
 }
 
-// Where a scaled frame starts in the image, in thirty-seconds.
+// Where a scaled frame starts in the image, with the rows that its column carried and the images that its row wrapped.
 pub struct Start {
-    pub image_x: u64,
-    pub image_y: u64,
-    pub origin: i64,
+    pub image_x: ThirtySeconds,
+    pub image_y: ThirtySeconds,
+    pub origin: ThirtySeconds,
     pub carry: u64,
     pub wrap: u64,
 }
 
-// What no pass of a scaled plan changes.
+// What no pass of a scaled plan changes; frame_rows counts lines in 1,024ths.
 pub struct Scaled {
     pub fmt: u64,
     pub siz: u64,
     pub palette: u64,
     pub address: u64,
-    pub x: u64,
-    pub x_end: u64,
-    pub scale_w: u64,
-    pub scale_h: u64,
+    pub x: Quarters,
+    pub x_end: Quarters,
+    pub scale_w: Scale,
+    pub scale_h: Scale,
     pub bilerp: u64,
     pub split: u64,
     pub source_rows: u64,
@@ -138,15 +141,15 @@ pub struct Scaled {
     pub frame_rows: u64,
     pub stride: u64,
     pub x_offset: u64,
-    pub s: i64,
+    pub s: ThirtySeconds,
 }
 
-// The first strip of a scaled plan.
+// The first strip of a scaled plan; image_hidden counts rows and count lines, both in 1,024ths.
 pub struct First {
     pub slice: i64,
     pub image_hidden: i64,
     pub count: i64,
-    pub t: u64,
+    pub t: ThirtySeconds,
     pub slice_rows: i64,
     pub image_row: u64,
 }
@@ -163,6 +166,6 @@ pub struct Walk {
     pub frame_remain: i64,
     pub count: i64,
     pub slice_rows: i64,
-    pub t: u64,
+    pub t: ThirtySeconds,
     pub source: Source,
 }

@@ -2,14 +2,13 @@
 -- Assumes nothing.
 use mathlib.Core.Bool.{Bool, cond}
 use mathlib.Core.Path.{_≡_}
-use Prim.Native.Nat.{ℕ, _+_, _*_}
+use Prim.Native.Nat.{ℕ, _+_}
 use lib.IntN.{ℤ, pos, _+ℤ_, _-ℤ_}
 use Rattle.signed.specs.Diff.{up}
 use Rattle.signed.specs.Cast.{minZ}
 use Rattle.object.specs.declared.types.ObjBg.{ObjBg}
 use Rattle.object.specs.declared.types.Scissor.{Scissor}
-use Rattle.object.specs.Measure.{quarters}
-use Rattle.plan.specs.Request.{edge}
+use Rattle.object.specs.Measure.{quarters, edge, inQuarters}
 use Rattle.plan.specs.Scaled.{maxOf}
 use Rattle.scaled.specs.declared.clip.Axis.{Axis}
 
@@ -32,10 +31,10 @@ moved x flip loss = x +ℤ pos (cond flip loss 0)
 
 -- what the scissor cuts off at the near side and at the far one, where the rest starts, and its extent
 unfoldable pub nearCut : (x : ℤ) (ul : ℕ) → ℕ
-nearCut x ul = up (pos (ul * 4) -ℤ x)
+nearCut x ul = up (pos ul -ℤ x)
 
 unfoldable pub farCut : (x extent : ℤ) (lr : ℕ) → ℕ
-farCut x extent lr = up (extent -ℤ pos (lr * 4) +ℤ x)
+farCut x extent lr = up (extent -ℤ pos lr +ℤ x)
 
 unfoldable pub startAt : (x : ℤ) (near : ℕ) → ℕ
 startAt x near = up (x +ℤ pos near)
@@ -44,10 +43,10 @@ unfoldable pub restOf : (extent : ℤ) (cut : ℕ) → ℕ
 restOf extent cut = up (extent -ℤ pos cut)
 
 pub record AxisIs (x extent : ℤ) (ul lr : ℕ) (a : Axis) : Type 0 where
-  pub near : a .near ≡ nearCut x ul
-  pub far : a .far ≡ farCut x extent lr
-  pub start : a .start ≡ startAt x (nearCut x ul)
-  pub rest : a .rest ≡ restOf extent (nearCut x ul + farCut x extent lr)
+  pub near : a .near ≡ inQuarters (pos (nearCut x ul))
+  pub far : a .far ≡ inQuarters (pos (farCut x extent lr))
+  pub start : a .start ≡ inQuarters (pos (startAt x (nearCut x ul)))
+  pub rest : a .rest ≡ inQuarters (pos (restOf extent (nearCut x ul + farCut x extent lr)))
 
 -- both axes of an object
 abbrev pub lossOf : ObjBg → ℕ

@@ -2,7 +2,7 @@
 -- Assumes nothing.
 use mathlib.Core.Bool.{Bool, true, false, cond}
 use mathlib.Core.Path.{_≡_, refl}
-use Prim.Native.Nat.{ℕ, _+_, _%_, _≤_}
+use Prim.Native.Nat.{ℕ, _+_, _-_, _%_, _^_, _≤_}
 use lib.Dec.{eqb}
 use lib.IntN.{ℤ, pos}
 use lib.Signed.{leZ, _≤ℤ_}
@@ -10,10 +10,9 @@ use Rattle.signed.specs.Diff.{zdiff, zparts, zarith}
 use Rattle.signed.specs.Cast.{minZ}
 use Rattle.object.specs.declared.types.ObjBg.{ObjBg}
 use Rattle.object.specs.declared.types.Scissor.{Scissor}
-use Rattle.object.specs.Measure.{quarters}
-use Rattle.object.specs.Range.{PassedScaled}
+use Rattle.object.specs.Measure.{quarters, edge}
+use Rattle.object.specs.Range.{Below, PassedScaled}
 use Rattle.plan.specs.declared.types.Clip.{Clip}
-use Rattle.plan.specs.Request.{edge}
 use Rattle.plan.specs.Scaled.{clipOf, scaledEmpty}
 use Rattle.scaled.specs.Clip.{greatest, removed, kept, lower, moved, nearCut, farCut, startAt, restOf, lossOf}
 use Rattle.signed.specs.Bound.{or-false, some}
@@ -23,10 +22,10 @@ use Rattle.scaled.specs.Range.{Filled, edge-le, extent-le}
 pub record AxisIn (x extent : ℤ) (ul lr : ℕ) : Type 0 where
   pub near : nearCut x ul ≤ 65535
   pub far : farCut x extent lr ≤ 65535
-  pub start : startAt x (nearCut x ul) ≤ 4092
-  pub rest : restOf extent (nearCut x ul + farCut x extent lr) ≤ 4092
+  pub start : startAt x (nearCut x ul) ≤ 4095
+  pub rest : restOf extent (nearCut x ul + farCut x extent lr) ≤ 4095
 
-pub axis-in : (x extent : ℤ) (ul lr : ℕ) → ul ≤ 1023 → lr ≤ 1023 → extent ≤ℤ pos 65535 → 1 ≤ restOf extent (nearCut x ul + farCut x extent lr) → AxisIn x extent ul lr
+pub axis-in : (x extent : ℤ) (ul lr : ℕ) → ul ≤ 4092 → lr ≤ 4092 → extent ≤ℤ pos 65535 → 1 ≤ restOf extent (nearCut x ul + farCut x extent lr) → AxisIn x extent ul lr
 unfolding nearCut farCut startAt restOf
 axis-in x extent ul lr u l e r =
     let k = simp zparts at (simp zdiff at r) in
@@ -37,8 +36,8 @@ axis-in x extent ul lr u l e r =
       rest = simp zdiff (simp zparts (omega zarith));
     }
 
-pub not-empty : (c : Clip) → scaledEmpty c ≡ false → (1 ≤ c .width) × (1 ≤ c .height)
-not-empty c e = let o = or-false (eqb (c .width) 0) (eqb (c .height) 0) e in (some (c .width) (o .0), some (c .height) (o .1))
+pub not-empty : (c : Clip) → scaledEmpty c ≡ false → (1 ≤ quarters (c .width)) × (1 ≤ quarters (c .height))
+not-empty c e = let o = or-false (eqb (quarters (c .width)) 0) (eqb (quarters (c .height)) 0) e in (some (quarters (c .width)) (o .0), some (quarters (c .height)) (o .1))
 
 min-at : (a b : ℤ) (t : Bool) → leZ a b ≡ t → cond t a b ≤ℤ a
 min-at a b true e = omega zarith
@@ -55,6 +54,9 @@ pub lower-le : (frame image scale : ℕ) → frame ≤ 65535 → lower frame ima
 unfolding lower
 lower-le frame image scale h = let m = min-le (pos frame) (greatest image scale) in omega zarith
 
+natural : {k : ℕ} (n : ℕ) → n ≤ 2 ^ k - 1 → Below k (pos n)
+natural n h = record { low = omega zarith; high = omega zarith }
+
 module _ (bg : ObjBg) (s : Scissor) (p : PassedScaled bg s) (e : scaledEmpty (clipOf bg s) ≡ false) where
   across-in : AxisIn (moved (bg .«frame_x» .0) (eqb (bg .«image_flip» % 2) 1) (lossOf bg)) (kept (quarters (bg .«frame_w»)) (lossOf bg)) (edge (s .ulx)) (edge (s .lrx))
   unfolding clipOf greatest removed kept moved nearCut farCut startAt restOf
@@ -67,13 +69,13 @@ module _ (bg : ObjBg) (s : Scissor) (p : PassedScaled bg s) (e : scaledEmpty (cl
   pub clip-filled : Filled (clipOf bg s)
   unfolding clipOf greatest removed kept lower moved nearCut farCut startAt restOf
   clip-filled = record {
-    left = across-in .near;
-    top = down-in .near;
-    right = across-in .far;
-    x = across-in .start;
-    y = down-in .start;
+    left = natural _ (across-in .near);
+    top = natural _ (down-in .near);
+    right = natural _ (across-in .far);
+    x = natural _ (across-in .start);
+    y = natural _ (down-in .start);
     width = not-empty (clipOf bg s) e .0;
-    width′ = across-in .rest;
+    width′ = natural _ (across-in .rest);
     height = not-empty (clipOf bg s) e .1;
-    height′ = down-in .rest;
+    height′ = natural _ (down-in .rest);
   }

@@ -6,17 +6,18 @@ use lib.IntN.{ℤ, pos, negℤ, _+ℤ_, _-ℤ_, _*ℤ_}
 use lib.Signed.{_≤ℤ_}
 use Rattle.signed.specs.Floor.{floorDiv, modulo}
 use Rattle.signed.specs.Cast.{clearLow}
+use Rattle.object.specs.Measure.{wholeRows, ofPosition, ofLines, whole}
 use Rattle.plan.specs.declared.types.Scaled.{Scaled}
 use Rattle.plan.specs.declared.types.Start.{Start}
 use Rattle.scaled.specs.declared.first.Cut.{Cut}
 
 -- the distance from the origin, in 1,024ths of an image row
-unfoldable pub imageOffset : ℕ → ℤ → ℤ
-imageOffset y o = (pos y -ℤ o) *ℤ pos 32
+unfoldable pub imageOffset : ℤ → ℤ → ℤ
+imageOffset y o = ofPosition (y -ℤ o)
 
 -- in 1,024ths of a frame line, at a whole line
 unfoldable pub frameOffset : ℤ → ℕ → ℤ
-frameOffset d h = floorDiv d h *ℤ pos 1024
+frameOffset d h = ofLines (floorDiv d h)
 
 -- a strip's start, and its lines before the frame's first
 unfoldable pub sliceStart : ℕ → ℤ → ℤ
@@ -30,11 +31,11 @@ countOf s f n = pos (modulo s 1024) +ℤ pos f -ℤ n
 
 -- the row, from the image row at which a strip starts
 unfoldable pub imageRow : ℤ → ℤ → ℤ → ℕ → ℕ
-imageRow s o n all = modulo (s +ℤ floorDiv o 32 +ℤ floorDiv n 1024) all
+imageRow s o n all = modulo (s +ℤ wholeRows o +ℤ whole n) all
 
 -- all of it, from the inputs: the distance, the first strip's number, and its start
 abbrev pub offsetOf : Scaled → Start → ℤ
-offsetOf z i = frameOffset (imageOffset (i .«image_y») (i .origin)) (z .«scale_h»)
+offsetOf z i = frameOffset (imageOffset (i .«image_y» .0) (i .origin .0)) (z .«scale_h» .0)
 
 abbrev pub sliceOf : Scaled → Start → ℤ
 sliceOf z i = floorDiv (offsetOf z i) (z .«frame_rows»)

@@ -11,6 +11,7 @@ use mir.Syntax.{w64}
 use mir.Val.{SFits}
 use Rattle.signed.specs.Diff.{up, dn, zdiff, zarith, mul-is}
 use Rattle.signed.specs.Floor.{floorDiv, modulo, modulo-lt, parts}
+use Rattle.object.specs.Measure.{whole, rowPart}
 use Rattle.plan.specs.declared.types.Scaled.{Scaled}
 use Rattle.plan.specs.declared.types.Start.{Start}
 use Rattle.plan.specs.declared.types.First.{First}
@@ -57,14 +58,14 @@ row-lt s o n all h = modulo-lt (s +ℤ floorDiv o 32 +ℤ floorDiv n 1024) h
 -- `firstOf` from the strip's number k, its start s and what is hidden of it
 abbrev pub firstFrom : Scaled → Start → (k s hidden : ℤ) → First
 firstFrom z i k s hidden =
-    let image-hidden = floorDiv hidden 1024 *ℤ pos (z .«scale_h») in
+    let image-hidden = whole hidden *ℤ pos (z .«scale_h» .0) in
     record {
       slice = k;
       «image_hidden» = image-hidden;
       count = countOf s (z .«frame_rows») hidden;
-      t = modulo (floorDiv image-hidden 32) 32;
-      «slice_rows» = pos (z .«image_rows») -ℤ floorDiv image-hidden 1024;
-      «image_row» = imageRow (sliceStart (z .«image_rows») k) (i .origin) image-hidden (z .«source_rows»);
+      t = rowPart image-hidden;
+      «slice_rows» = pos (z .«image_rows») -ℤ whole image-hidden;
+      «image_row» = imageRow (sliceStart (z .«image_rows») k) (i .origin .0) image-hidden (z .«source_rows»);
     }
 
 pub first-from : (z : Scaled) (i : Start) → firstFrom z i (sliceOf z i) (startOfSlice z i) (hiddenOf (offsetOf z i) (startOfSlice z i)) ≡ firstOf z i
@@ -96,8 +97,8 @@ module _ (z : Scaled) (i : Start) (v : SoundScaled z) where
   unfolding n
   n-le = omega (arith, from .below, v .frame-rows′, modulo-lt (startOfSlice z i) {m = 1024} (lit< tt))
 
-  row-le : n / 1024 * z .«scale_h» / 1024 ≤ 2 ^ 27
-  row-le = omega (arith, hidden-rows-le n (z .«scale_h») n-le (v .scale-h′))
+  row-le : n / 1024 * z .«scale_h» .0 / 1024 ≤ 2 ^ 27
+  row-le = omega (arith, hidden-rows-le n (z .«scale_h» .0) n-le (v .scale-h′))
 
   sound-at : SoundFirst z (firstFrom z i (sliceOf z i) (startOfSlice z i) (pos n))
   unfolding n
@@ -106,9 +107,9 @@ module _ (z : Scaled) (i : Start) (v : SoundScaled z) where
       record {
         count = rw c (omega (zarith, from .below));
         count′ = rw c (omega (zarith, v .frame-rows′));
-        slice-rows = rows-in (z .«image_rows») (n / 1024 * z .«scale_h» / 1024) row-le (v .image-rows′) .0;
-        slice-rows′ = rows-in (z .«image_rows») (n / 1024 * z .«scale_h» / 1024) row-le (v .image-rows′) .1;
-        t = omega arith;
+        slice-rows = rows-in (z .«image_rows») (n / 1024 * z .«scale_h» .0 / 1024) row-le (v .image-rows′) .0;
+        slice-rows′ = rows-in (z .«image_rows») (n / 1024 * z .«scale_h» .0 / 1024) row-le (v .image-rows′) .1;
+        t = record { low = omega zarith; high = omega zarith };
         image-row = row-lt _ _ _ (z .«source_rows») (v .source-rows);
       }
 

@@ -1,9 +1,8 @@
 -- What the set-up of a scaled plan takes and promises: each result is its definition's, in a range.
 -- Assumes nothing.
-use mathlib.Core.Bool.{false}
+use mathlib.Core.Bool.{Bool, true, false, cond}
 use mathlib.Core.Path.{_≡_}
 use Prim.Native.Nat.{ℕ, _^_, _≤_, _<_}
-use native.Mathlib.Omega.{arith}
 use lib.IntN.{ℤ, pos, negℤ}
 use lib.Signed.{_≤ℤ_}
 use mir.Syntax.{w32, w64}
@@ -11,9 +10,10 @@ use mir.Val.{SFits, toZ, ofZ}
 use mir.ValLaws.{toZ-ofZ}
 use Rattle.signed.specs.Diff.{up, zarith}
 use Rattle.object.specs.declared.types.ObjBg.{ObjBg}
+use Rattle.object.specs.declared.types.Quarters.{Quarters}
 use Rattle.object.specs.declared.types.Scissor.{Scissor}
-use Rattle.object.specs.Measure.{quarters, inImage}
-use Rattle.object.specs.Range.{Below, Within, InRange, PassedScaled}
+use Rattle.object.specs.Measure.{quarters, thirtySeconds, edge, inImage}
+use Rattle.object.specs.Range.{Below, InRange, PassedScaled}
 use Rattle.plan.specs.declared.types.Clip.{Clip}
 use Rattle.plan.specs.declared.types.Start.{Start}
 use Rattle.plan.specs.declared.types.Scaled.{Scaled}
@@ -44,15 +44,15 @@ usable p = record {
 
 -- a clip that is not empty
 pub record Filled (c : Clip) : Type 0 where
-  pub left : c .left ≤ 65535
-  pub top : c .top ≤ 65535
-  pub right : c .right ≤ 65535
-  pub x : c .x ≤ 4092
-  pub y : c .y ≤ 4092
-  pub width : 1 ≤ c .width
-  pub width′ : c .width ≤ 4092
-  pub height : 1 ≤ c .height
-  pub height′ : c .height ≤ 4092
+  pub left : Below 16 (c .left .0)
+  pub top : Below 16 (c .top .0)
+  pub right : Below 16 (c .right .0)
+  pub x : Below 12 (c .x .0)
+  pub y : Below 12 (c .y .0)
+  pub width : 1 ≤ quarters (c .width)
+  pub width′ : Below 12 (c .width .0)
+  pub height : 1 ≤ quarters (c .height)
+  pub height′ : Below 12 (c .height .0)
 
 pub record ClipIs (bg : ObjBg) (s : Scissor) (c : Clip) : Type 0 where
   pub is : c ≡ clipOf bg s
@@ -60,12 +60,13 @@ pub record ClipIs (bg : ObjBg) (s : Scissor) (c : Clip) : Type 0 where
 
 -- a start in an image
 pub record StartIn (bg : ObjBg) (i : Start) : Type 0 where
-  pub image-x : i .«image_x» < inImage (quarters (bg .«image_w»))
-  pub image-y : i .«image_y» < inImage (quarters (bg .«image_h»))
+  pub image-x : thirtySeconds (i .«image_x») < inImage (quarters (bg .«image_w»))
+  pub image-x′ : Below 20 (i .«image_x» .0)
+  pub image-y : Below 20 (i .«image_y» .0)
   pub carry : i .carry ≤ 2 ^ 23
   pub wrap : i .wrap ≤ 2 ^ 26
-  pub low : negℤ (pos (2 ^ 33)) ≤ℤ i .origin
-  pub high : i .origin ≤ℤ pos (2 ^ 33)
+  pub low : negℤ (pos (2 ^ 33)) ≤ℤ i .origin .0
+  pub high : i .origin .0 ≤ℤ pos (2 ^ 33)
 
 pub record StartIs (bg : ObjBg) (c : Clip) (i : Start) : Type 0 where
   pub is : i ≡ startOf bg c
@@ -77,9 +78,9 @@ pub record ScaledIs (bg : ObjBg) (mode address : ℕ) (c : Clip) (i : Start) (z 
 
 -- what the first strip needs of the start
 pub record Near (i : Start) : Type 0 where
-  pub image-y : i .«image_y» ≤ 2 ^ 20
-  pub low : negℤ (pos (2 ^ 33)) ≤ℤ i .origin
-  pub high : i .origin ≤ℤ pos (2 ^ 33)
+  pub image-y : Below 20 (i .«image_y» .0)
+  pub low : negℤ (pos (2 ^ 33)) ≤ℤ i .origin .0
+  pub high : i .origin .0 ≤ℤ pos (2 ^ 33)
 
 pub record FirstIs (z : Scaled) (i : Start) (f : First) : Type 0 where
   pub is : f ≡ firstOf z i
@@ -89,25 +90,21 @@ pub record FirstIs (z : Scaled) (i : Start) (f : First) : Type 0 where
 pub reads-edge : {z : ℤ} → Below 10 z → toZ w32 (ofZ w32 z) ≡ z
 reads-edge {z} r = let b : SFits w32 z = omega zarith in toZ-ofZ w32 z b
 
-pub reads15 : {z : ℤ} → Within 15 z → toZ w64 (ofZ w64 z) ≡ z
-reads15 {z} r = let b : SFits w64 z = omega zarith in toZ-ofZ w64 z b
-
-pub reads31 : {z : ℤ} → Within 31 z → toZ w64 (ofZ w64 z) ≡ z
-reads31 {z} r = let b : SFits w64 z = omega zarith in toZ-ofZ w64 z b
-
-pub reads33 : {i : Start} → Near i → toZ w64 (ofZ w64 (i .origin)) ≡ i .origin
-reads33 {i} r = let b : SFits w64 (i .origin) = omega zarith in toZ-ofZ w64 (i .origin) b
-
 pub reads49 : {z : ℤ} → negℤ (pos (2 ^ 49)) ≤ℤ z → z ≤ℤ pos (2 ^ 49) → toZ w64 (ofZ w64 z) ≡ z
 reads49 {z} l h = let b : SFits w64 z = omega zarith in toZ-ofZ w64 z b
 
 -- edges and extents as numbers
-pub edge-le : {z : ℤ} → Below 10 z → up z ≤ 1023
+pub edge-le : {z : ℤ} → Below 10 z → edge z ≤ 4092
 edge-le {z} r = omega zarith
 
 pub extent-le : {z : ℤ} → Below 16 z → up z ≤ 65535
 extent-le {z} r = omega zarith
 
+-- a choice of extents
+pub chosen-in : (t : Bool) {a b : Quarters} → Below 16 (a .0) → Below 16 (b .0) → Below 16 (cond t a b .0)
+chosen-in true h k = h
+chosen-in false h k = k
+
 -- a start in an image is near enough for the first strip
-pub near : {bg : ObjBg} {i : Start} → Usable bg → StartIn bg i → Near i
-near {bg} {i} u s = record { image-y = omega (arith, s .image-y, extent-le (u .range .image-h)); low = s .low; high = s .high }
+pub near : {bg : ObjBg} {i : Start} → StartIn bg i → Near i
+near s = record { image-y = s .image-y; low = s .low; high = s .high }

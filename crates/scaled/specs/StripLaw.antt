@@ -2,12 +2,13 @@
 -- Assumes nothing.
 use mathlib.Core.Bool.{false}
 use mathlib.Core.Path.{_≡_}
-use Prim.Native.Nat.{ℕ, _+_, _-_, _*_, _/_, _%_, _^_, _<_, _≤_}
+use Prim.Native.Nat.{ℕ, _+_, _-_, _*_, _/_, _%_, _^_, _≤_}
 use native.Mathlib.Omega.{arith}
 use native.Mathlib.Nat.{div-le-self, div-mul-le-self, le-div-iff-mul-le, mul-le-mul-left, mul-le-mul-right}
 use lib.Dec.{eqb, leb}
+use Rattle.signed.specs.Diff.{zdiff, zarith}
 use Rattle.object.specs.declared.types.ObjBg.{ObjBg}
-use Rattle.object.specs.Measure.{quarters, inImage, sampledBy}
+use Rattle.object.specs.Measure.{quarters, thirtySeconds, ofRows, inImage, sampledBy}
 use Rattle.plan.specs.declared.types.Clip.{Clip}
 use Rattle.plan.specs.declared.types.Start.{Start}
 use Rattle.plan.specs.declared.types.Scaled.{Scaled}
@@ -15,7 +16,7 @@ use Rattle.plan.specs.Scaled.{scaledOf, scaledCapacity, slicesBad}
 use Rattle.plan.specs.Sound.{SoundScaled}
 use Rattle.signed.specs.Bound.{or-false, some}
 use Rattle.scaled.specs.Number.{shift-range, chosen-le}
-use Rattle.scaled.specs.Range.{Usable, Filled, extent-le}
+use Rattle.scaled.specs.Range.{Usable, Filled, StartIn, extent-le}
 use Rattle.scaled.specs.Strip.{shiftOf, splitOf}
 
 pub slices-good : (z : Scaled) → slicesBad z ≡ false → (1 ≤ z .«source_rows») × ((1 ≤ z .«image_rows») × (1 ≤ z .stride))
@@ -52,7 +53,7 @@ pub split-le : (source-w end : ℕ) → splitOf source-w end ≤ 1
 unfolding splitOf
 split-le source-w end = chosen-le (leb source-w end) (omega arith) (omega arith)
 
-module _ (bg : ObjBg) (mode address : ℕ) (c : Clip) (i : Start) (u : Usable bg) (f : Filled c) (x : i .«image_x» < inImage (quarters (bg .«image_w»))) where
+module _ (bg : ObjBg) (mode address : ℕ) (c : Clip) (i : Start) (u : Usable bg) (f : Filled c) (n : StartIn bg i) where
   pub scaled-sound : slicesBad (scaledOf bg mode address c i) ≡ false → SoundScaled (scaledOf bg mode address c i)
   unfolding scaledOf shiftOf splitOf
   scaled-sound e =
@@ -73,14 +74,14 @@ module _ (bg : ObjBg) (mode address : ℕ) (c : Clip) (i : Start) (u : Usable bg
         frame-rows′ = frame-most _ (bg .«scale_h» .0) r;
         stride = omega (arith, g .1 .1);
         stride′ = bytes-le (inImage (quarters (bg .«image_w»))) (bg .«image_siz») (omega arith) (u .siz);
-        x-offset = bytes-le (i .«image_x») (bg .«image_siz») (omega arith) (u .siz);
+        x-offset = bytes-le (thirtySeconds (i .«image_x»)) (bg .«image_siz») (omega (arith, n .image-x)) (u .siz);
         source-rows = g .0;
         source-rows′ = omega arith;
         scale-h = u .scale-h;
         scale-h′ = u .range .scale-h;
         scale-w′ = u .range .scale-w;
         bilerp = omega arith;
-        split = split-le (inImage (quarters (bg .«image_w»))) (i .«image_x» + (sampledBy (c .width) (bg .«scale_w» .0) + mode / 8 % 2 * 32));
+        split = split-le (inImage (quarters (bg .«image_w»))) (thirtySeconds (i .«image_x») + (sampledBy (quarters (c .width)) (bg .«scale_w» .0) + ofRows (mode / 8 % 2)));
         x = f .x;
-        x-end = omega (arith, f .x, f .width′);
+        x-end = record { low = simp zdiff (omega zarith); high = simp zdiff (omega zarith) };
       }

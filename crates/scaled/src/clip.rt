@@ -1,85 +1,87 @@
 // The frame clipped by the scissor.
 ghost use mathlib.Core.Path.{_≡_};
-ghost use Prim.Native.Nat.{_+_, _*_, _≤_, _^_};
+ghost use Prim.Native.Nat.{_+_, _≤_, _^_};
 ghost use lib.IntN.{pos, negℤ};
 ghost use lib.Signed.{_≤ℤ_};
-ghost use Rattle.object.specs.Range.{PassedScaled};
+ghost use Rattle.object.specs.Measure.{quarters, inQuarters};
+ghost use Rattle.object.specs.Range.{Below, Within, PassedScaled};
 ghost use Rattle.plan.specs.Scaled.{scaledEmpty};
 ghost use Rattle.scaled.specs.Range.{ClipIs};
 ghost use Rattle.scaled.specs.Clip.{greatest, removed, kept, lower, moved, nearCut, farCut, AxisIs, Across, Down};
-use crate::measure::edge_of;
 use object::ObjBg;
+use object::Quarters;
+use object::Scale;
 use object::Scissor;
 use plan::Clip;
 
-// What the scissor cuts off a frame along one axis, before and after, and the rest.
+// What the scissor cuts off a frame along one axis, before and after, where the rest starts, and the rest.
 pub(crate) struct Axis {
-    pub(crate) near: u64,
-    pub(crate) far: u64,
-    pub(crate) start: u64,
-    pub(crate) rest: u64,
+    pub(crate) near: Quarters,
+    pub(crate) far: Quarters,
+    pub(crate) start: Quarters,
+    pub(crate) rest: Quarters,
 }
 
 // The frame's greatest extent: what the image gives at the scale, less one, in whole pixels.
-fn max_of(image: u64, scale: u64) -> i64
-    requires { ⌜ (image ≤ 65535) × (1 ≤ scale) ⌝ }
-    ensures { λ r. ⌜ r ≡ greatest image scale ⌝ }
-    ensures { λ r. ⌜ (negℤ (pos 4) ≤ℤ r) × (r ≤ℤ pos (2 ^ 26)) ⌝ }
+fn max_of(image: Quarters, scale: Scale) -> Quarters
+    requires { ⌜ (Below 16 (image .0)) × (1 ≤ scale .0) ⌝ }
+    ensures { λ r. ⌜ r ≡ inQuarters (greatest (quarters image) (scale .0)) ⌝ }
+    ensures { λ r. ⌜ (negℤ (pos 4) ≤ℤ r .0) × (r .0 ≤ℤ pos (2 ^ 26)) ⌝ }
 {
-    let shown = (image << 10) / scale;
-    let less = shown as i64 - 1;
-    signed::clear2(less)
+    let shown = object::shown_at(image, scale);
+    let less = shown.0 - 1;
+    Quarters(signed::clear2(less))
 }
 
 // What a frame wider than its image loses.
-fn removed_of(frame: u64, image: u64, scale: u64) -> u64
-    requires { ⌜ (frame ≤ 65535) × ((image ≤ 65535) × (1 ≤ scale)) ⌝ }
-    ensures { λ r. ⌜ r ≡ removed frame image scale ⌝ }
-    ensures { λ r. ⌜ r ≤ frame + 4 ⌝ }
-{
-    signed::positive(frame as i64 - max_of(image, scale))
-}
-
-fn height_of(frame: u64, image: u64, scale: u64) -> i64
-    requires { ⌜ (frame ≤ 65535) × ((image ≤ 65535) × (1 ≤ scale)) ⌝ }
-    ensures { λ r. ⌜ r ≡ lower frame image scale ⌝ }
-    ensures { λ r. ⌜ (negℤ (pos 4) ≤ℤ r) × (r ≤ℤ pos 65535) ⌝ }
+fn removed_of(frame: Quarters, image: Quarters, scale: Scale) -> Quarters
+    requires { ⌜ (Below 16 (frame .0)) × ((Below 16 (image .0)) × (1 ≤ scale .0)) ⌝ }
+    ensures { λ r. ⌜ r ≡ inQuarters (pos (removed (quarters frame) (quarters image) (scale .0))) ⌝ }
+    ensures { λ r. ⌜ quarters r ≤ quarters frame + 4 ⌝ }
 {
     let max = max_of(image, scale);
-    let all = frame as i64;
-    if all <= max { all } else { max }
+    object::extent(frame.0 - max.0)
+}
+
+fn height_of(frame: Quarters, image: Quarters, scale: Scale) -> Quarters
+    requires { ⌜ (Below 16 (frame .0)) × ((Below 16 (image .0)) × (1 ≤ scale .0)) ⌝ }
+    ensures { λ r. ⌜ r ≡ inQuarters (lower (quarters frame) (quarters image) (scale .0)) ⌝ }
+    ensures { λ r. ⌜ (negℤ (pos 4) ≤ℤ r .0) × (r .0 ≤ℤ pos 65535) ⌝ }
+{
+    let max = max_of(image, scale);
+    if frame.0 <= max.0 { frame } else { max }
 }
 
 // The Rust's `left` and `top`.
-fn near_cut(x: i64, ul: u64) -> u64
-    requires { ⌜ (ul ≤ 1023) × ((negℤ (pos (2 ^ 15)) ≤ℤ x) × (x ≤ℤ pos (2 ^ 18))) ⌝ }
-    ensures { λ r. ⌜ r ≡ nearCut x ul ⌝ }
-    ensures { λ r. ⌜ r ≤ 36860 ⌝ }
+fn near_cut(x: Quarters, ul: Quarters) -> Quarters
+    requires { ⌜ (Below 12 (ul .0)) × ((negℤ (pos (2 ^ 15)) ≤ℤ x .0) × (x .0 ≤ℤ pos (2 ^ 18))) ⌝ }
+    ensures { λ r. ⌜ r ≡ inQuarters (pos (nearCut (x .0) (quarters ul))) ⌝ }
+    ensures { λ r. ⌜ quarters r ≤ 36863 ⌝ }
 {
-    signed::positive((ul * 4) as i64 - x)
+    object::extent(ul.0 - x.0)
 }
 
 // The Rust's `right` and `bottom`.
-fn far_cut(x: i64, extent: i64, lr: u64) -> u64
-    requires { ⌜ (lr ≤ 1023) × ((negℤ (pos (2 ^ 15)) ≤ℤ x) × (x ≤ℤ pos (2 ^ 18))) ⌝ }
-    requires { ⌜ (negℤ (pos 4) ≤ℤ extent) × (extent ≤ℤ pos 65535) ⌝ }
-    ensures { λ r. ⌜ r ≡ farCut x extent lr ⌝ }
-    ensures { λ r. ⌜ r ≤ 2 ^ 19 ⌝ }
+fn far_cut(x: Quarters, extent: Quarters, lr: Quarters) -> Quarters
+    requires { ⌜ (Below 12 (lr .0)) × ((negℤ (pos (2 ^ 15)) ≤ℤ x .0) × (x .0 ≤ℤ pos (2 ^ 18))) ⌝ }
+    requires { ⌜ (negℤ (pos 4) ≤ℤ extent .0) × (extent .0 ≤ℤ pos 65535) ⌝ }
+    ensures { λ r. ⌜ r ≡ inQuarters (pos (farCut (x .0) (extent .0) (quarters lr))) ⌝ }
+    ensures { λ r. ⌜ quarters r ≤ 2 ^ 19 ⌝ }
 {
-    signed::positive(extent - (lr * 4) as i64 + x)
+    object::extent(extent.0 - lr.0 + x.0)
 }
 
 // An extent at `x` between two edges of the scissor.
-fn cut_axis(x: i64, extent: i64, ul: u64, lr: u64) -> Axis
-    requires { ⌜ (ul ≤ 1023) × (lr ≤ 1023) ⌝ }
-    requires { ⌜ (negℤ (pos (2 ^ 15)) ≤ℤ x) × (x ≤ℤ pos (2 ^ 18)) ⌝ }
-    requires { ⌜ (negℤ (pos 4) ≤ℤ extent) × (extent ≤ℤ pos 65535) ⌝ }
-    ensures { λ r. ⌜ AxisIs x extent ul lr r ⌝ }
+fn cut_axis(x: Quarters, extent: Quarters, ul: Quarters, lr: Quarters) -> Axis
+    requires { ⌜ (Below 12 (ul .0)) × Below 12 (lr .0) ⌝ }
+    requires { ⌜ (negℤ (pos (2 ^ 15)) ≤ℤ x .0) × (x .0 ≤ℤ pos (2 ^ 18)) ⌝ }
+    requires { ⌜ (negℤ (pos 4) ≤ℤ extent .0) × (extent .0 ≤ℤ pos 65535) ⌝ }
+    ensures { λ r. ⌜ AxisIs (x .0) (extent .0) (quarters ul) (quarters lr) r ⌝ }
 {
     let near = near_cut(x, ul);
     let far = far_cut(x, extent, lr);
-    let start = signed::positive(x + near as i64);
-    let rest = signed::positive(extent - (near + far) as i64);
+    let start = object::extent(x.0 + near.0);
+    let rest = object::extent(extent.0 - (near.0 + far.0));
     Axis {
         near,
         far,
@@ -89,52 +91,52 @@ fn cut_axis(x: i64, extent: i64, ul: u64, lr: u64) -> Axis
 }
 
 // What a flipped frame loses in width is lost on the left.
-fn x_of(frame_x: i64, flip: bool, removed_w: u64) -> i64
-    requires { ⌜ (negℤ (pos (2 ^ 15)) ≤ℤ «frame_x») × («frame_x» ≤ℤ pos (2 ^ 15)) ⌝ }
-    requires { ⌜ «removed_w» ≤ 65539 ⌝ }
-    ensures { λ r. ⌜ r ≡ moved «frame_x» flip «removed_w» ⌝ }
-    ensures { λ r. ⌜ (negℤ (pos (2 ^ 15)) ≤ℤ r) × (r ≤ℤ pos (2 ^ 18)) ⌝ }
+fn x_of(frame_x: Quarters, flip: bool, removed_w: Quarters) -> Quarters
+    requires { ⌜ (Within 15 («frame_x» .0)) × Below 17 («removed_w» .0) ⌝ }
+    ensures { λ r. ⌜ r ≡ inQuarters (moved («frame_x» .0) flip (quarters «removed_w»)) ⌝ }
+    ensures { λ r. ⌜ (negℤ (pos (2 ^ 15)) ≤ℤ r .0) × (r .0 ≤ℤ pos (2 ^ 18)) ⌝ }
 {
     if flip {
-        frame_x + removed_w as i64
+        Quarters(frame_x.0 + removed_w.0)
     } else {
         frame_x
     }
 }
 
-fn width_of(frame_w: u64, removed_w: u64) -> i64
-    requires { ⌜ («frame_w» ≤ 65535) × («removed_w» ≤ «frame_w» + 4) ⌝ }
-    ensures { λ r. ⌜ r ≡ kept «frame_w» «removed_w» ⌝ }
-    ensures { λ r. ⌜ (negℤ (pos 4) ≤ℤ r) × (r ≤ℤ pos 65535) ⌝ }
+fn width_of(frame_w: Quarters, removed_w: Quarters) -> Quarters
+    requires { ⌜ (Below 16 («frame_w» .0)) × (Below 17 («removed_w» .0)) ⌝ }
+    requires { ⌜ quarters «removed_w» ≤ quarters «frame_w» + 4 ⌝ }
+    ensures { λ r. ⌜ r ≡ inQuarters (kept (quarters «frame_w») (quarters «removed_w»)) ⌝ }
+    ensures { λ r. ⌜ (negℤ (pos 4) ≤ℤ r .0) × (r .0 ≤ℤ pos 65535) ⌝ }
 {
-    frame_w as i64 - removed_w as i64
+    Quarters(frame_w.0 - removed_w.0)
 }
 
 fn across(bg: ObjBg, flip: bool, scissor: Scissor) -> Axis
     requires { ⌜ PassedScaled bg scissor ⌝ }
     ensures { λ r. ⌜ Across bg flip scissor r ⌝ }
 {
-    let frame_w = object::quarters(bg.frame_w);
-    let removed_w = removed_of(frame_w, object::quarters(bg.image_w), bg.scale_w.0);
-    let x = x_of(bg.frame_x.0, flip, removed_w);
-    let width = width_of(frame_w, removed_w);
-    cut_axis(x, width, edge_of(scissor.ulx), edge_of(scissor.lrx))
+    let removed_w = removed_of(bg.frame_w, bg.image_w, bg.scale_w);
+    let x = x_of(bg.frame_x, flip, removed_w);
+    let width = width_of(bg.frame_w, removed_w);
+    cut_axis(
+        x,
+        width,
+        object::edge(scissor.ulx),
+        object::edge(scissor.lrx),
+    )
 }
 
 fn down(bg: ObjBg, scissor: Scissor) -> Axis
     requires { ⌜ PassedScaled bg scissor ⌝ }
     ensures { λ r. ⌜ Down bg scissor r ⌝ }
 {
-    let height = height_of(
-        object::quarters(bg.frame_h),
-        object::quarters(bg.image_h),
-        bg.scale_h.0,
-    );
+    let height = height_of(bg.frame_h, bg.image_h, bg.scale_h);
     cut_axis(
-        bg.frame_y.0,
+        bg.frame_y,
         height,
-        edge_of(scissor.uly),
-        edge_of(scissor.lry),
+        object::edge(scissor.uly),
+        object::edge(scissor.lry),
     )
 }
 
@@ -145,20 +147,27 @@ pub fn clip_of(bg: ObjBg, scissor: Scissor) -> Clip
     let flip = bg.image_flip % 2 == 1;
     let horizontal = across(bg, flip, scissor);
     let vertical = down(bg, scissor);
+    let left = horizontal.near;
+    let top = vertical.near;
+    let right = horizontal.far;
+    let x = horizontal.start;
+    let y = vertical.start;
+    let width = horizontal.rest;
+    let height = vertical.rest;
     Clip {
         flip,
-        left: horizontal.near,
-        top: vertical.near,
-        right: horizontal.far,
-        x: horizontal.start,
-        y: vertical.start,
-        width: horizontal.rest,
-        height: vertical.rest,
+        left,
+        top,
+        right,
+        x,
+        y,
+        width,
+        height,
     }
 }
 
 pub fn clip_empty(c: Clip) -> bool
     ensures { λ r. ⌜ r ≡ scaledEmpty c ⌝ }
 {
-    c.width == 0 || c.height == 0
+    object::quarters(c.width) == 0 || object::quarters(c.height) == 0
 }

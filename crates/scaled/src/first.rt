@@ -5,9 +5,12 @@ ghost use lib.IntN.{pos, negℤ, _+ℤ_, _-ℤ_};
 ghost use lib.Signed.{_≤ℤ_, _<ℤ_};
 ghost use mir.Syntax.{w64};
 ghost use mir.Val.{SFits};
+ghost use Rattle.object.specs.Range.{Below};
 ghost use Rattle.plan.specs.Sound.{SoundScaled};
 ghost use Rattle.scaled.specs.Range.{Near, FirstIs};
 ghost use Rattle.scaled.specs.First.{imageOffset, frameOffset, sliceStart, hiddenOf, countOf, imageRow, CutIs};
+use object::Scale;
+use object::ThirtySeconds;
 use plan::First;
 use plan::Scaled;
 use plan::Start;
@@ -20,23 +23,23 @@ pub(crate) struct Cut {
 }
 
 // The distance from the origin, in 1,024ths of an image row.
-fn image_offset(y: u64, origin: i64) -> i64
-    requires { ⌜ y ≤ 2 ^ 20 ⌝ }
-    requires { ⌜ (negℤ (pos (2 ^ 33)) ≤ℤ origin) × (origin ≤ℤ pos (2 ^ 33)) ⌝ }
-    ensures { λ r. ⌜ r ≡ imageOffset y origin ⌝ }
+fn image_offset(y: ThirtySeconds, origin: ThirtySeconds) -> i64
+    requires { ⌜ Below 20 (y .0) ⌝ }
+    requires { ⌜ (negℤ (pos (2 ^ 33)) ≤ℤ origin .0) × (origin .0 ≤ℤ pos (2 ^ 33)) ⌝ }
+    ensures { λ r. ⌜ r ≡ imageOffset (y .0) (origin .0) ⌝ }
     ensures { λ r. ⌜ (negℤ (pos (2 ^ 39)) ≤ℤ r) × (r ≤ℤ pos (2 ^ 39)) ⌝ }
 {
-    (y as i64 - origin) << 5
+    object::of_position(ThirtySeconds(y.0 - origin.0))
 }
 
 // The same in 1,024ths of a frame line, rounded down to a whole line.
-fn frame_offset(offset: i64, scale_h: u64) -> i64
+fn frame_offset(offset: i64, scale_h: Scale) -> i64
     requires { ⌜ (negℤ (pos (2 ^ 39)) ≤ℤ offset) × (offset ≤ℤ pos (2 ^ 39)) ⌝ }
-    requires { ⌜ (1 ≤ «scale_h») × («scale_h» ≤ 65535) ⌝ }
-    ensures { λ r. ⌜ r ≡ frameOffset offset «scale_h» ⌝ }
+    requires { ⌜ (1 ≤ «scale_h» .0) × («scale_h» .0 ≤ 65535) ⌝ }
+    ensures { λ r. ⌜ r ≡ frameOffset offset («scale_h» .0) ⌝ }
     ensures { λ r. ⌜ (negℤ (pos (2 ^ 49)) ≤ℤ r) × (r ≤ℤ pos (2 ^ 49)) ⌝ }
 {
-    signed::floor_div(offset, scale_h) << 10
+    object::of_lines(signed::floor_div(offset, scale_h.0))
 }
 
 // A strip's rows or frame lines times its number.
@@ -67,23 +70,23 @@ fn count_of(start: i64, frame_rows: u64, hidden: u64) -> i64
 }
 
 // The image row under the frame's first line.
-fn image_row(start: i64, origin: i64, hidden: u64, source_rows: u64) -> u64
+fn image_row(start: i64, origin: ThirtySeconds, hidden: u64, source_rows: u64) -> u64
     requires { ⌜ (negℤ (pos (2 ^ 61)) ≤ℤ start) × (start ≤ℤ pos (2 ^ 61)) ⌝ }
-    requires { ⌜ (negℤ (pos (2 ^ 33)) ≤ℤ origin) × (origin ≤ℤ pos (2 ^ 33)) ⌝ }
+    requires { ⌜ (negℤ (pos (2 ^ 33)) ≤ℤ origin .0) × (origin .0 ≤ℤ pos (2 ^ 33)) ⌝ }
     requires { ⌜ (hidden ≤ 2 ^ 40) × ((1 ≤ «source_rows») × («source_rows» ≤ 16383)) ⌝ }
-    ensures { λ r. ⌜ r ≡ imageRow start origin (pos hidden) «source_rows» ⌝ }
+    ensures { λ r. ⌜ r ≡ imageRow start (origin .0) (pos hidden) «source_rows» ⌝ }
 {
-    let top = signed::rows5(origin);
-    signed::rem_euclid(start + top + (hidden >> 10) as i64, source_rows)
+    let top = object::whole_rows(origin);
+    signed::rem_euclid(start + top + object::whole(hidden) as i64, source_rows)
 }
 
 // The hidden lines in 1,024ths of an image row.
-fn image_hidden_of(hidden: u64, scale_h: u64) -> u64
-    requires { ⌜ (hidden ≤ 2 ^ 30 + 1024) × («scale_h» ≤ 65535) ⌝ }
-    ensures { λ r. ⌜ r ≡ hidden / 1024 * «scale_h» ⌝ }
+fn image_hidden_of(hidden: u64, scale_h: Scale) -> u64
+    requires { ⌜ (hidden ≤ 2 ^ 30 + 1024) × («scale_h» .0 ≤ 65535) ⌝ }
+    ensures { λ r. ⌜ r ≡ hidden / 1024 * «scale_h» .0 ⌝ }
     ensures { λ r. ⌜ r ≤ 2 ^ 37 ⌝ }
 {
-    (hidden >> 10) * scale_h
+    object::whole(hidden) * scale_h.0
 }
 
 // A strip's rows less those that are hidden, which may be more.
@@ -91,7 +94,7 @@ fn rows_left(image_rows: u64, image_hidden: u64) -> i64
     requires { ⌜ («image_rows» ≤ 512) × («image_hidden» ≤ 2 ^ 37) ⌝ }
     ensures { λ r. ⌜ r ≡ pos «image_rows» -ℤ pos («image_hidden» / 1024) ⌝ }
 {
-    image_rows as i64 - (image_hidden >> 10) as i64
+    image_rows as i64 - object::whole(image_hidden) as i64
 }
 
 fn cut_of(z: Scaled, i: Start) -> Cut
@@ -119,7 +122,7 @@ pub fn first_of(z: Scaled, i: Start) -> First
     let slice = cut.slice;
     let image_hidden = image_hidden_of(cut.hidden, z.scale_h);
     let count = count_of(cut.start, z.frame_rows, cut.hidden);
-    let t = signed::low5(image_hidden >> 5);
+    let t = object::row_part(image_hidden);
     let slice_rows = rows_left(z.image_rows, image_hidden);
     let top = slice_start(z.image_rows, slice);
     let image_row = image_row(top, i.origin, image_hidden, z.source_rows);

@@ -1,36 +1,51 @@
 // Where the clipped frame starts in the image.
 ghost use mathlib.Core.Path.{_≡_};
-ghost use Prim.Native.Nat.{_+_, _*_, _≤_, _^_};
-ghost use lib.IntN.{pos, negℤ};
-ghost use lib.Signed.{_≤ℤ_};
-ghost use Rattle.object.specs.Measure.{thirtySeconds, sampledBy};
+ghost use Prim.Native.Nat.{_+_, _/_, _%_, _≤_, _^_};
+ghost use lib.IntN.{pos};
+ghost use Rattle.object.specs.Measure.{thirtySeconds, quarters, sampledBy, inThirtySeconds};
+ghost use Rattle.object.specs.Range.{Below, Within};
 ghost use Rattle.scaled.specs.Range.{Usable, Filled, StartIs};
 ghost use Rattle.scaled.specs.Strip.{originOf};
 use crate::measure::chosen;
-use crate::measure::sampled_by;
+use crate::measure::sum;
 use object::ObjBg;
+use object::Quarters;
 use object::Scale;
 use object::ThirtySeconds;
 use plan::Clip;
 use plan::Start;
 
 // The image position under the frame's first pixel or line that the scissor leaves.
-fn position_after(first: ThirtySeconds, cut: u64, scale: Scale) -> u64
-    requires { ⌜ (thirtySeconds first ≤ 65535) × ((cut ≤ 65535) × (scale .0 ≤ 65535)) ⌝ }
-    ensures { λ r. ⌜ r ≡ thirtySeconds first + sampledBy cut (scale .0) ⌝ }
-    ensures { λ r. ⌜ r ≤ 2 ^ 26 ⌝ }
+fn position_after(first: ThirtySeconds, cut: Quarters, scale: Scale) -> ThirtySeconds
+    requires { ⌜ (Below 16 (first .0)) × ((Below 16 (cut .0)) × (scale .0 ≤ 65535)) ⌝ }
+    ensures { λ r. ⌜ r ≡ inThirtySeconds (pos (thirtySeconds first + sampledBy (quarters cut) (scale .0))) ⌝ }
+    ensures { λ r. ⌜ thirtySeconds r ≤ 2 ^ 26 ⌝ }
 {
-    object::thirty_seconds(first) + sampled_by(cut, scale)
+    sum(first, object::sampled_by(cut, scale))
+}
+
+// How often an image's width or height goes into a position.
+fn wraps(at: ThirtySeconds, size: ThirtySeconds) -> u64
+    requires { ⌜ 1 ≤ thirtySeconds size ⌝ }
+    ensures { λ r. ⌜ r ≡ thirtySeconds at / thirtySeconds size ⌝ }
+{
+    object::thirty_seconds(at) / object::thirty_seconds(size)
+}
+
+// What is left of the position then.
+fn rest(at: ThirtySeconds, size: ThirtySeconds) -> ThirtySeconds
+    requires { ⌜ (thirtySeconds at ≤ 2 ^ 40) × (1 ≤ thirtySeconds size) ⌝ }
+    ensures { λ r. ⌜ r ≡ inThirtySeconds (pos (thirtySeconds at % thirtySeconds size)) ⌝ }
+{
+    object::of_thirty_seconds(object::thirty_seconds(at) % object::thirty_seconds(size))
 }
 
 // The origin moves down with the rows that the column carried, and back with the images that the row wrapped.
-fn origin_of(origin: i64, down: u64, back: u64) -> i64
-    requires { ⌜ (negℤ (pos (2 ^ 31)) ≤ℤ origin) × (origin ≤ℤ pos (2 ^ 31)) ⌝ }
-    requires { ⌜ (down ≤ 2 ^ 31) × (back ≤ 2 ^ 31) ⌝ }
-    ensures { λ r. ⌜ r ≡ originOf origin down back ⌝ }
-    ensures { λ r. ⌜ (negℤ (pos (2 ^ 33)) ≤ℤ r) × (r ≤ℤ pos (2 ^ 33)) ⌝ }
+fn origin_of(origin: ThirtySeconds, down: ThirtySeconds, back: ThirtySeconds) -> ThirtySeconds
+    requires { ⌜ (Within 31 (origin .0)) × ((Below 31 (down .0)) × Below 31 (back .0)) ⌝ }
+    ensures { λ r. ⌜ r ≡ inThirtySeconds (originOf (origin .0) (thirtySeconds down) (thirtySeconds back)) ⌝ }
 {
-    origin + down as i64 - back as i64
+    ThirtySeconds(origin.0 + down.0 - back.0)
 }
 
 pub fn start_of(bg: ObjBg, c: Clip) -> Start
@@ -38,16 +53,20 @@ pub fn start_of(bg: ObjBg, c: Clip) -> Start
     requires { ⌜ Filled c ⌝ }
     ensures { λ r. ⌜ StartIs bg c r ⌝ }
 {
-    let source_w = object::quarters(bg.image_w) * 8;
-    let source_h = object::quarters(bg.image_h) * 8;
+    let source_w = object::in_image(bg.image_w);
+    let source_h = object::in_image(bg.image_h);
     let x = position_after(bg.image_x, chosen(c.flip, c.right, c.left), bg.scale_w);
-    let carry = x / source_w;
-    let y = position_after(bg.image_y, c.top, bg.scale_h) + carry * 32;
-    let wrap = y / source_h;
-    let origin = origin_of(bg.image_y_orig.0, carry * 32, wrap * source_h);
+    let carry = wraps(x, source_w);
+    let down = object::of_rows(carry as i64);
+    let y = sum(position_after(bg.image_y, c.top, bg.scale_h), down);
+    let wrap = wraps(y, source_h);
+    let back = object::of_thirty_seconds(wrap * object::thirty_seconds(source_h));
+    let image_x = rest(x, source_w);
+    let image_y = rest(y, source_h);
+    let origin = origin_of(bg.image_y_orig, down, back);
     Start {
-        image_x: x % source_w,
-        image_y: y % source_h,
+        image_x,
+        image_y,
         origin,
         carry,
         wrap,

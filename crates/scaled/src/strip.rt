@@ -1,12 +1,17 @@
 // The numbers that every strip of a scaled plan has.
 ghost use mathlib.Core.Path.{_≡_};
-ghost use Prim.Native.Nat.{_*_, _/_, _%_, _≤_, _<_, _^_};
-ghost use Rattle.object.specs.Measure.{quarters, inImage};
+ghost use Prim.Native.Nat.{_+_, _*_, _/_, _%_, _≤_, _<_, _^_};
+ghost use lib.IntN.{pos};
+ghost use Rattle.object.specs.Measure.{quarters, thirtySeconds, ofRows, sampledBy, inThirtySeconds};
+ghost use Rattle.object.specs.Range.{Below};
 ghost use Rattle.plan.specs.Scaled.{slicesBad};
-ghost use Rattle.scaled.specs.Range.{Usable, Filled, ScaledIs};
+ghost use Rattle.scaled.specs.Range.{Usable, Filled, StartIn, ScaledIs};
 ghost use Rattle.scaled.specs.Strip.{shiftOf, maxSlice, lineOf, splitOf, sOf, RowsAre, ColumnsAre};
-use crate::measure::sampled_by;
+use crate::measure::sum;
 use object::ObjBg;
+use object::Quarters;
+use object::Scale;
+use object::ThirtySeconds;
 use plan::Clip;
 use plan::Scaled;
 use plan::Start;
@@ -24,7 +29,7 @@ pub(crate) struct Columns {
     pub(crate) split: u64,
     pub(crate) stride: u64,
     pub(crate) x_offset: u64,
-    pub(crate) s: i64,
+    pub(crate) s: ThirtySeconds,
 }
 
 // One where the render mode blends two rows, so that a strip loads one row more.
@@ -45,25 +50,40 @@ fn shift_of(siz: u8) -> u64
 }
 
 // The mask keeps what a position has over whole words.
-fn column_of(x: u64, siz: u8) -> u64
+fn column_of(x: ThirtySeconds, siz: u8) -> ThirtySeconds
     requires { ⌜ siz ≤ 3 ⌝ }
-    ensures { λ r. ⌜ r ≡ x % shiftOf siz ⌝ }
-    ensures { λ r. ⌜ r < 512 ⌝ }
+    ensures { λ r. ⌜ r ≡ inThirtySeconds (pos (thirtySeconds x % shiftOf siz)) ⌝ }
+    ensures { λ r. ⌜ thirtySeconds r < 512 ⌝ }
 {
     let mask = shift_of(siz) - 1;
-    x & mask
+    object::of_thirty_seconds(object::thirty_seconds(x) & mask)
 }
 
-fn max_slice_of(siz: u8, sampled: u64, bilerp: u64, source_w: u64) -> u64
-    requires { ⌜ (sampled ≤ 2 ^ 25) × ((bilerp ≤ 1) × («source_w» ≤ 2 ^ 20)) ⌝ }
-    ensures { λ r. ⌜ r ≡ maxSlice siz sampled bilerp «source_w» ⌝ }
+fn max_slice_of(siz: u8, slice: ThirtySeconds, source_w: ThirtySeconds) -> u64
+    requires { ⌜ thirtySeconds «source_w» ≤ 2 ^ 20 ⌝ }
+    ensures { λ r. ⌜ r ≡ maxSlice siz (thirtySeconds slice) (thirtySeconds «source_w») ⌝ }
     ensures { λ r. ⌜ r ≤ 2 ^ 20 ⌝ }
 {
     if siz == 3 {
         0x2800
     } else {
-        signed::least(sampled + bilerp * 32, source_w)
+        signed::least(
+            object::thirty_seconds(slice),
+            object::thirty_seconds(source_w),
+        )
     }
+}
+
+// What a frame width takes of the image, with the column more that a blend reads.
+fn slice_width(width: Quarters, scale: Scale, bilerp: u64) -> ThirtySeconds
+    requires { ⌜ (Below 16 (width .0)) × ((scale .0 ≤ 65535) × (bilerp ≤ 1)) ⌝ }
+    ensures { λ r. ⌜ r ≡ inThirtySeconds (pos (sampledBy (quarters width) (scale .0) + ofRows bilerp)) ⌝ }
+    ensures { λ r. ⌜ thirtySeconds r ≤ 2 ^ 26 ⌝ }
+{
+    sum(
+        object::sampled_by(width, scale),
+        object::of_rows(bilerp as i64),
+    )
 }
 
 // The words of a tile's row: those of the widest strip, and one more.
@@ -73,46 +93,42 @@ fn line_of(bg: ObjBg, bilerp: u64) -> u64
     ensures { λ r. ⌜ r ≡ lineOf bg bilerp ⌝ }
     ensures { λ r. ⌜ 1 ≤ r ⌝ }
 {
-    let source_w = object::quarters(bg.image_w) * 8;
-    let sampled = sampled_by(object::quarters(bg.frame_w), bg.scale_w);
+    let source_w = object::in_image(bg.image_w);
+    let slice = slice_width(bg.frame_w, bg.scale_w, bilerp);
     let shift = shift_of(bg.image_siz);
-    let max_slice = max_slice_of(bg.image_siz, sampled, bilerp, source_w);
+    let max_slice = max_slice_of(bg.image_siz, slice, source_w);
     (max_slice + (shift - 1)) / shift + 1
 }
 
 // A row's bytes in whole words, up to a position.
-fn bytes_of(x: u64, siz: u8) -> u64
-    requires { ⌜ (x ≤ 2 ^ 20) × (siz ≤ 3) ⌝ }
-    ensures { λ r. ⌜ r ≡ x / shiftOf siz * 8 ⌝ }
+fn bytes_of(x: ThirtySeconds, siz: u8) -> u64
+    requires { ⌜ (thirtySeconds x ≤ 2 ^ 20) × (siz ≤ 3) ⌝ }
+    ensures { λ r. ⌜ r ≡ thirtySeconds x / shiftOf siz * 8 ⌝ }
 {
-    x / shift_of(siz) * 8
+    object::thirty_seconds(x) / shift_of(siz) * 8
 }
 
 // One where a strip's rows run over the image's right side.
-fn split_of(source_w: u64, end: u64) -> u64
-    ensures { λ r. ⌜ r ≡ splitOf «source_w» end ⌝ }
+fn split_of(source_w: ThirtySeconds, end: ThirtySeconds) -> u64
+    ensures { λ r. ⌜ r ≡ splitOf (thirtySeconds «source_w») (thirtySeconds end) ⌝ }
 {
-    if source_w <= end { 1 } else { 0 }
-}
-
-// The texture column of the frame's left side, which in a flipped frame is the image's right.
-fn s_of(flip: bool, column: u64, image_width: u64) -> i64
-    requires { ⌜ (column < 512) × («image_width» ≤ 2 ^ 25) ⌝ }
-    ensures { λ r. ⌜ r ≡ sOf flip column «image_width» ⌝ }
-{
-    if flip {
-        -((column + image_width) as i64)
+    if object::thirty_seconds(source_w) <= object::thirty_seconds(end) {
+        1
     } else {
-        column as i64
+        0
     }
 }
 
-// The frame lines of a strip, in 1,024ths.
-fn frame_rows_of(image_rows: u64, scale_h: u64) -> u64
-    requires { ⌜ («image_rows» ≤ 512) × (1 ≤ «scale_h») ⌝ }
-    ensures { λ r. ⌜ r ≡ «image_rows» * 2 ^ 20 / «scale_h» ⌝ }
+// The texture column of the frame's left side, which in a flipped frame is the image's right.
+fn s_of(flip: bool, column: ThirtySeconds, image_width: ThirtySeconds) -> ThirtySeconds
+    requires { ⌜ (Below 9 (column .0)) × Below 26 («image_width» .0) ⌝ }
+    ensures { λ r. ⌜ r ≡ inThirtySeconds (sOf flip (thirtySeconds column) (thirtySeconds «image_width»)) ⌝ }
 {
-    (image_rows << 20) / scale_h
+    if flip {
+        ThirtySeconds(-(column.0 + image_width.0))
+    } else {
+        column
+    }
 }
 
 fn rows_of(bg: ObjBg, bilerp: u64) -> Rows
@@ -123,8 +139,8 @@ fn rows_of(bg: ObjBg, bilerp: u64) -> Rows
     let line = line_of(bg, bilerp);
     let capacity = capacity::scaled_capacity(bg.image_fmt, bg.image_siz);
     let image_rows = signed::minus(capacity / line, bilerp);
-    let frame_rows = frame_rows_of(image_rows, bg.scale_h.0);
-    let source_rows = (object::quarters(bg.image_h) * 8) >> 5;
+    let frame_rows = object::lines_at(image_rows, bg.scale_h);
+    let source_rows = object::whole_texels(object::in_image(bg.image_h));
     Rows {
         line,
         image_rows,
@@ -137,16 +153,16 @@ fn columns_of(bg: ObjBg, bilerp: u64, c: Clip, i: Start) -> Columns
     requires { ⌜ Usable bg ⌝ }
     requires { ⌜ Filled c ⌝ }
     requires { ⌜ bilerp ≤ 1 ⌝ }
-    requires { ⌜ i .«image_x» < inImage (quarters (bg .«image_w»)) ⌝ }
+    requires { ⌜ StartIn bg i ⌝ }
     ensures { λ r. ⌜ ColumnsAre bg bilerp c i r ⌝ }
 {
-    let source_w = object::quarters(bg.image_w) * 8;
+    let source_w = object::in_image(bg.image_w);
     let image_x = i.image_x;
-    let image_width = sampled_by(c.width, bg.scale_w);
-    let slice_width = image_width + bilerp * 32;
-    let split = split_of(source_w, image_x + slice_width);
+    let slice = slice_width(c.width, bg.scale_w, bilerp);
+    let split = split_of(source_w, sum(image_x, slice));
     let stride = bytes_of(source_w, bg.image_siz);
     let x_offset = bytes_of(image_x, bg.image_siz);
+    let image_width = object::sampled_by(c.width, bg.scale_w);
     let s = s_of(c.flip, column_of(image_x, bg.image_siz), image_width);
     Columns {
         split,
@@ -159,23 +175,27 @@ fn columns_of(bg: ObjBg, bilerp: u64, c: Clip, i: Start) -> Columns
 pub fn scaled_of(bg: ObjBg, mode: u32, address: u64, c: Clip, i: Start) -> Scaled
     requires { ⌜ Usable bg ⌝ }
     requires { ⌜ Filled c ⌝ }
-    requires { ⌜ i .«image_x» < inImage (quarters (bg .«image_w»)) ⌝ }
+    requires { ⌜ StartIn bg i ⌝ }
     ensures { λ r. ⌜ ScaledIs bg mode address c i r ⌝ }
 {
     let bilerp = bilerp_of(mode);
     let rows = rows_of(bg, bilerp);
     let columns = columns_of(bg, bilerp, c, i);
     let palette = signed::low8(bg.image_pal);
-    let x_end = c.x + c.width;
+    let x = c.x;
+    let x_end = Quarters(c.x.0 + c.width.0);
+    let scale_w = bg.scale_w;
+    let scale_h = bg.scale_h;
+    let s = columns.s;
     Scaled {
         fmt: bg.image_fmt as u64,
         siz: bg.image_siz as u64,
         palette: palette as u64,
         address,
-        x: c.x,
+        x,
         x_end,
-        scale_w: bg.scale_w.0,
-        scale_h: bg.scale_h.0,
+        scale_w,
+        scale_h,
         bilerp,
         split: columns.split,
         source_rows: rows.source_rows,
@@ -184,7 +204,7 @@ pub fn scaled_of(bg: ObjBg, mode: u32, address: u64, c: Clip, i: Start) -> Scale
         frame_rows: rows.frame_rows,
         stride: columns.stride,
         x_offset: columns.x_offset,
-        s: columns.s,
+        s,
     }
 }
 

@@ -1,63 +1,59 @@
 -- `copy::frame::cells_in`: each branch is one case of the smaller of the two ends. Assumes nothing.
-use Rattle.signed.specs.Diff.{zdiff, zarith}
-use Rattle.signed.specs.Word.{rd, rdn}
+use mathlib.Core.Path.{_≡_}
+use lib.Dec.{lit≤}
+use mir.Syntax.{w64}
+use mir.Val.{SFits, toZ, ofZ}
 use borrow.Author.Needs.{needs}
+use Rattle.signed.specs.Diff.{zdiff, zarith}
+use Rattle.signed.specs.Word.{rd}
+use Rattle.object.specs.Range.{below-read}
 use Rattle.copy.proofs.frame.cells_in.Statement.{statement}
 use Rattle.copy.proofs.frame.cells_in.Tie as tie
 
-cast-end : tie.Need-cast-end
-cast-end c = search needs
+frame-reads : (a : tie.Start) → toZ w64 (ofZ w64 (a .args .frame .0)) ≡ a .args .frame .0
+frame-reads a = let f : SFits w64 (a .args .frame .0) = omega zarith in rd f
+
+size-reads : (a : tie.Start) → toZ w64 (ofZ w64 (a .args .size .0)) ≡ a .args .size .0
+size-reads a = below-read (lit≤ tt) (a .pre .0 .1)
+
+high-reads : (a : tie.Start) → toZ w64 (ofZ w64 (a .args .high .0)) ≡ a .args .high .0
+high-reads a = below-read (lit≤ tt) (a .pre .1 .0)
+
+near-reads : (a : tie.Start) → toZ w64 (ofZ w64 (a .args .near .0)) ≡ a .args .near .0
+near-reads a = below-read (lit≤ tt) (a .pre .1 .1)
 
 add-end : tie.Need-add-end
-add-end c = rw (rd (c .fits .frame), rdn (c .args .size) (cast-end c .sfits)) (simp zdiff (omega zarith))
+add-end c = let a = c .before .before .before .before in rw (frame-reads a, size-reads a) (simp zdiff (omega zarith))
 
-cast-scissor : tie.Need-cast-scissor
-cast-scissor c = search needs
+sub-t8 : tie.Need-sub-t8
+sub-t8 c =
+    let d = c .before .before .before .before .before in
+    let a = d .before .before .before .before in
+    rw (rd (add-end d), frame-reads a, size-reads a, near-reads a) (simp zdiff (omega zarith))
 
-cast-start : tie.Need-cast-start
-cast-start c = search needs
+texels-requires : tie.Need-texels-requires
+texels-requires c κs = search needs
 
-sub-positive : tie.Need-sub-positive
-sub-positive c =
-    let a = c .before in
-    rw (rd (add-end a), rd (a .fits .frame), rdn (a .args .size) (cast-end a .sfits), rdn (a .args .near) (cast-start a .sfits)) (simp zdiff (omega zarith))
+sub-t10 : tie.Need-sub-t10
+sub-t10 c = let a = c .before .before .before .before .before .before .before .before .before .before .before in rw (high-reads a, near-reads a) (simp zdiff (omega zarith))
 
-positive-requires : tie.Need-positive-requires
-positive-requires c κs = search needs
-
-sub-positive-2 : tie.Need-sub-positive-2
-sub-positive-2 c =
-    let a = c .before in
-    rw (rdn (a .args .high) (cast-scissor a .sfits), rdn (a .args .near) (cast-start a .sfits)) (simp zdiff (omega zarith))
-
-positive-requires-2 : tie.Need-positive-requires-2
-positive-requires-2 c κs = search needs
+texels-requires-2 : tie.Need-texels-requires-2
+texels-requires-2 c κs = search needs
 
 returns : tie.Need-returns
 returns c =
-    let a = c .before .before in
-    let t = rw (rd (add-end a), rd (a .fits .frame), rdn (a .args .size) (cast-end a .sfits), rdn (a .args .high) (cast-scissor a .sfits)) at (c .before .if1 .taken) in
-    let e = rw (rd (sub-positive (c .before)), rd (add-end a), rd (a .fits .frame), rdn (a .args .size) (cast-end a .sfits), rdn (a .args .near) (cast-start a .sfits)) at (c .positive .ensures) in
-    rw (t, e)
+    let d = c .before .before .before .before .before .before in
+    let a = d .before .before .before .before in
+    let t = rw (rd (add-end d), frame-reads a, size-reads a, high-reads a) at (c .before .before .before .if1 .taken) in
+    rw t (rw (rd (sub-t8 (c .before)), rd (add-end d), frame-reads a, size-reads a, near-reads a) at (c .texels .ensures))
 
 returns-2 : tie.Need-returns-2
 returns-2 c =
-    let a = c .before .before in
-    let t = rw (rd (add-end a), rd (a .fits .frame), rdn (a .args .size) (cast-end a .sfits), rdn (a .args .high) (cast-scissor a .sfits)) at (c .before .if1 .left) in
-    let e = rw (rd (sub-positive-2 (c .before)), rdn (a .args .high) (cast-scissor a .sfits), rdn (a .args .near) (cast-start a .sfits)) at (c .positive2 .ensures) in
-    rw (t, e)
+    let d = c .before .before .before .before .before .before .before .before in
+    let a = d .before .before .before .before in
+    let t = rw (rd (add-end d), frame-reads a, size-reads a, high-reads a) at (c .before .before .before .before .before .if1 .left) in
+    rw t (rw (rd (sub-t10 (c .before)), high-reads a, near-reads a) at (c .texels2 .ensures))
 
 pub cells-in-spec : {M : Type 1} → statement M
 cells-in-spec =
-    tie.close
-    (tie.spec
-    cast-end
-    add-end
-    cast-scissor
-    cast-start
-    sub-positive
-    positive-requires
-    sub-positive-2
-    positive-requires-2
-    returns
-    returns-2)
+    tie.close (tie.spec add-end sub-t8 texels-requires sub-t10 texels-requires-2 returns returns-2)

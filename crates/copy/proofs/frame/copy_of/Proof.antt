@@ -43,21 +43,21 @@ texels-per-word-requires c κs = search needs
 low8-requires : tie.Need-low8-requires
 low8-requires c κs = search needs
 
-rows-in-requires : tie.Need-rows-in-requires
-rows-in-requires c κs = search needs
-
-cast-t15 : tie.Need-cast-t15
-cast-t15 c = search needs
-
-cast-t16 : tie.Need-cast-t16
-cast-t16 c = search needs
+strip-lines-requires : tie.Need-strip-lines-requires
+strip-lines-requires c κs = search needs
 
 cast-t17 : tie.Need-cast-t17
 cast-t17 c = search needs
 
+cast-t18 : tie.Need-cast-t18
+cast-t18 c = search needs
+
+cast-t19 : tie.Need-cast-t19
+cast-t19 c = search needs
+
 returns : tie.Need-returns
 returns c =
-    let d = c .before .before .before in
+    let d = c .before .before .before .before .before in
     let a = d .before .before .before .before .before .before .before .before .before .before .before .before .before .before .before .before in
     let ulx : SFits w32 (a .args .scissor .ulx) = omega zarith in
     let uly : SFits w32 (a .args .scissor .uly) = omega zarith in
@@ -71,7 +71,8 @@ returns c =
     (d .before .before .before .before .before .before .before .texels3 .ensures)
     (d .before .before .before .before .before .before .whole-texels .ensures)
     (d .before .before .before .before .before .whole-texels2 .ensures)
-    (d .rows-in .ensures)
+    (d .strip-lines .ensures .0)
+    (d .strip-lines .ensures .1)
     (d .before .low8 .ensures)
     (d .before .before .before .copy-capacity .ensures .is)
     (d .before .before .texels-per-word .ensures)
@@ -91,8 +92,8 @@ copy-of-spec =
     copy-capacity-requires
     texels-per-word-requires
     low8-requires
-    rows-in-requires
-    cast-t15
-    cast-t16
+    strip-lines-requires
     cast-t17
+    cast-t18
+    cast-t19
     returns)

@@ -15,6 +15,9 @@ wide-requires c κs = search needs
 wide-requires-2 : tie.Need-wide-requires-2
 wide-requires-2 c κs = search needs
 
+strip-lines-requires : tie.Need-strip-lines-requires
+strip-lines-requires c κs = search needs
+
 texels-requires : tie.Need-texels-requires
 texels-requires c κs = search needs
 
@@ -41,6 +44,7 @@ unfolding copyFaults
 returns c =
     rw (
       c .flip-bad .ensures,
+      c .before .before .before .before .before .before .strip-lines .ensures .0,
       c .before .before .before .before .before .texels .ensures,
       c .before .before .before .before .texels2 .ensures,
       product (c .before .before .before .before .before .before .before .before .before .wide .result) (c .before .before .before .before .before .before .before .before .wide2 .result) (c .before .before .before .before .before .before .before .before .before .wide .ensures .1) (c .before .before .before .before .before .before .before .before .wide2 .ensures .1),
@@ -57,6 +61,7 @@ copy-bad-spec =
     (tie.spec
     wide-requires
     wide-requires-2
+    strip-lines-requires
     texels-requires
     texels-requires-2
     wide-requires-3

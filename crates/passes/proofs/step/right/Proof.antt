@@ -1,27 +1,31 @@
--- `passes::step::right` meets its contract: sixteen times the width less one, cut. Assumes nothing.
+-- `passes::step::right` meets its contract: the words less one as quarters, cut. Assumes nothing.
 use borrow.Author.Needs.{needs}
-use mathlib.Core.Path.{_≡_, refl, sym, ap, _∙_}
-use lib.Dec.{lit≤, lit<}
-use lib.IntN.{ℤ, pos, negℤ, _+ℤ_, _-ℤ_, _*ℤ_}
+use mathlib.Core.Path.{ap, _∙_}
 use mir.Syntax.{w64}
-use mir.Val.{toZ, ofZ}
-use Rattle.signed.specs.Word.{rd, rdn, rk}
-use Rattle.signed.specs.Diff.{up, dn, zdiff, zparts, zarith}
-use Rattle.passes.specs.Comes.{fits, less-in, times-in, wider}
+use mir.Val.{SFits}
+use Rattle.signed.specs.Cast.{u16}
+use Rattle.signed.specs.Diff.{zdiff, zarith}
+use Rattle.signed.specs.Word.{rd}
+use Rattle.object.specs.declared.types.Quarters.{Quarters}
 use Rattle.passes.proofs.step.right.Statement.{statement}
 use Rattle.passes.proofs.step.right.Tie as tie
 
-sub-low16 : tie.Need-sub-low16
-sub-low16 c = rw (rd (c .fits .width)) (fits 48 (c .args .width -ℤ pos 1) (lit≤ tt) (less-in 47 _ 1 (c .pre) (lit≤ tt)))
+sub-of-words : tie.Need-sub-of-words
+sub-of-words c = rw (rd (c .fits .width)) (simp zdiff (omega zarith))
 
-mul-low16 : tie.Need-mul-low16
-mul-low16 c = rw (rd (sub-low16 c), rd (c .fits .width)) (fits 53 ((c .args .width -ℤ pos 1) *ℤ pos 16) (lit≤ tt) (times-in 48 5 _ 16 (less-in 47 _ 1 (c .pre) (lit≤ tt)) (lit≤ tt)))
+of-words-requires : tie.Need-of-words-requires
+of-words-requires c κs = rw (rd (sub-of-words c), rd (c .fits .width)) (record { low = simp zdiff (omega zarith); high = simp zdiff (omega zarith) })
 
 low16-requires : tie.Need-low16-requires
 low16-requires c κs = search needs
 
 returns : tie.Need-returns
-returns c = rw (rd (mul-low16 (c .before)), rd (sub-low16 (c .before)), rd (c .before .fits .width)) at (c .low16 .ensures)
+returns c =
+    let s = c .before .before .before in
+    let q = c .before .before .of-words in
+    let e = rw (rd (sub-of-words s), rd (s .fits .width)) at (q .ensures) in
+    let f : SFits w64 (q .result .0) = rw e (simp zdiff (omega zarith)) in
+    rw (rd f) at (c .low16 .ensures) ∙ ap (λ (r : Quarters). u16 (r .0)) e
 
 pub right-spec : {M : Type 1} → statement M
-right-spec = tie.close (tie.spec sub-low16 mul-low16 low16-requires returns)
+right-spec = tie.close (tie.spec sub-of-words of-words-requires low16-requires returns)

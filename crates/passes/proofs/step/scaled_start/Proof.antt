@@ -1,14 +1,11 @@
 -- `passes::step::scaled_start` meets its contract: the first sum, and the walk before the first pass. Assumes nothing.
 use borrow.Author.Needs.{needs}
-use mathlib.Core.Path.{_≡_, refl, sym, ap, _∙_}
-use lib.Dec.{lit≤, lit<}
-use lib.IntN.{ℤ, pos, negℤ, _+ℤ_, _-ℤ_, _*ℤ_}
-use mir.Syntax.{w64}
-use mir.Val.{toZ, ofZ}
-use Rattle.signed.specs.Word.{rd, rdn, rk}
+use mathlib.Core.Path.{refl, _∙_}
+use lib.Dec.{lit≤}
+use Rattle.signed.specs.Word.{rdn, rk}
 use native.Mathlib.Omega.{arith}
-use Rattle.signed.specs.Diff.{up, dn, zdiff, zparts, zarith}
-use Prim.Native.Nat.{_+_, _*_, _/_, _≤_}
+use Rattle.signed.specs.Diff.{zarith}
+use Prim.Native.Nat.{_+_, _*_, _≤_}
 use native.Mathlib.Nat.{mul-le-mul}
 use Rattle.object.specs.Range.{Within}
 use Rattle.passes.specs.Comes.{read-in}
@@ -67,16 +64,23 @@ count-in s = let a = s .pre .1 .0 .count in let b = s .pre .1 .0 .count′ in re
 rows-in : (s : tie.Start) → Within 28 (s .args .f .«slice_rows»)
 rows-in s = let a = s .pre .1 .0 .slice-rows in let b = s .pre .1 .0 .slice-rows′ in record { low = omega zarith; high = omega zarith }
 
+texels-requires : tie.Need-texels-requires
+texels-requires c κs = search needs
+
 cast-left : tie.Need-cast-left
 cast-left c = search needs
 
+texels-requires-2 : tie.Need-texels-requires-2
+texels-requires-2 c κs = search needs
+
 returns-2 : tie.Need-returns-2
 returns-2 c =
-    let s = c .before .before .before .before .before .before .before .before .before .before .before .before in
+    let s = c .before .before .before .before .before .before .before .before .before .before .before .before .before in
     let a = s .args in
-    let r = rk _ (c .before .before .before .less .ok) ∙ (rw (rdn (a .z .«source_rows») (cast-less (c .before .before .before .before) .sfits)) at (c .before .before .before .less .ensures)) in
-    start-at (a .z) (a .c) (a .f) (s .pre .0) (s .pre .1 .0) (s .pre .1 .1) _ (c .before .before .before .before .before .before .pointer .given .0 .0) refl (rw (r, rdn (a .c .height / 4) (cast-left (c .before .before) .sfits), read-in 32 (a .f .count) (lit≤ tt) (count-in s), read-in 28 (a .f .«slice_rows») (lit≤ tt) (rows-in s)))
-    (rw (rdn (a .z .stride * a .f .«image_row» + a .z .«x_offset») (cast-source-address (c .before .before .before .before .before .before .before .before .before) .sfits), c .before .before .before .before .before .before .pointer .given .1) at (c .before .before .before .before .before .before .before .before .source-address .ensures))
+    let l = c .before .before .before .before in
+    let r = rk _ (l .less .ok) ∙ (rw (rdn (a .z .«source_rows») (cast-less (l .before) .sfits)) at (l .less .ensures)) in
+    start-at (a .z) (a .c) (a .f) (s .pre .0) (s .pre .1 .0) (s .pre .1 .1) _ (c .before .before .before .before .before .before .before .pointer .given .0 .0) refl (rw (r, rdn (c .before .before .before .texels .result) (cast-left (c .before .before .before) .sfits), c .before .before .before .texels .ensures, c .before .before .texels2 .ensures, read-in 32 (a .f .count) (lit≤ tt) (count-in s), read-in 28 (a .f .«slice_rows») (lit≤ tt) (rows-in s)))
+    (rw (rdn (a .z .stride * a .f .«image_row» + a .z .«x_offset») (cast-source-address (c .before .before .before .before .before .before .before .before .before .before) .sfits), c .before .before .before .before .before .before .before .pointer .given .1) at (c .before .before .before .before .before .before .before .before .before .source-address .ensures))
 
 pub scaled-start-spec : {M : Type 1} → statement M
 scaled-start-spec =
@@ -91,5 +95,7 @@ scaled-start-spec =
     returns
     cast-less
     less-requires
+    texels-requires
     cast-left
+    texels-requires-2
     returns-2)

@@ -1,10 +1,10 @@
 -- `planner::start::scaled_course` meets its contract: an empty frame, verdict 6, or the walk from its first place. Assumes nothing.
 use borrow.Author.Needs.{needs}
-use mathlib.Core.Path.{_≡_, refl, sym, ap, _∙_}
-use native.Mathlib.Omega.{arith}
-use Rattle.plan.specs.Scaled.{clipOf, scaledEmpty, startOf, scaledOf, slicesBad}
+use mathlib.Core.Path.{_≡_, sym, _∙_}
+use Prim.Native.Nat.{_≤_}
+use Rattle.signed.specs.Diff.{zarith}
+use Rattle.object.specs.Measure.{quarters}
 use Rattle.passes.specs.declared.types.Reached.{Reached}
-use Rattle.passes.specs.Sound.{ClipIn}
 use Rattle.scaled.specs.Range.{usable, near}
 use Rattle.planner.specs.Coming.{StartsScaled, courseOf}
 use Rattle.planner.specs.Start.{scaled-none, scaled-bad, scaled-begins}
@@ -26,7 +26,7 @@ start-of-requires : tie.Need-start-of-requires
 start-of-requires c κs = (usable (c .before .before .before .pre), c .before .before .clip-of .ensures .filled (sym (c .before .clip-empty .ensures) ∙ c .if1 .left))
 
 scaled-of-requires : tie.Need-scaled-of-requires
-scaled-of-requires c κs = let h = start-of-requires (c .before) κs in (h .0, (h .1, c .start-of .ensures .inside .image-x))
+scaled-of-requires c κs = let h = start-of-requires (c .before) κs in (h .0, (h .1, c .start-of .ensures .inside))
 
 slices-bad-requires : tie.Need-slices-bad-requires
 slices-bad-requires c κs = search needs
@@ -41,12 +41,15 @@ returns-2 c =
 
 first-of-requires : tie.Need-first-of-requires
 first-of-requires c κs =
-    (c .before .before .scaled-of .ensures .sound (sym (c .before .slices-bad .ensures) ∙ c .if2 .left), near (usable (c .before .before .before .before .before .before .before .pre)) (c .before .before .before .start-of .ensures .inside))
+    (c .before .before .scaled-of .ensures .sound (sym (c .before .slices-bad .ensures) ∙ c .if2 .left), near (c .before .before .before .start-of .ensures .inside))
 
 scaled-start-requires : tie.Need-scaled-start-requires
 scaled-start-requires c κs =
     let f = c .before .before .before .before .before .before .before .clip-of .ensures .filled (sym (c .before .before .before .before .before .before .clip-empty .ensures) ∙ c .before .before .before .before .before .if1 .left) in
-    (first-of-requires (c .before) κs .0, (c .first-of .ensures .sound, record { y = omega (arith, f .y); height = f .height′ }))
+    let d = c .before .before .before .before .before .before .before .clip-of .result in
+    let y : quarters (d .y) ≤ 8192 = omega (zarith, f .y .high) in
+    let h : quarters (d .height) ≤ 4095 = omega (zarith, f .height′ .high) in
+    (first-of-requires (c .before) κs .0, (c .first-of .ensures .sound, record { y = y; height = h }))
 
 -- the walk from its first place, over the definitions
 begun : (c : tie.After-scaled-start) (r : Reached) → c .scaled-start .result ≡ r

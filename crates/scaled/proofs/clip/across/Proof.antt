@@ -1,67 +1,57 @@
 -- `scaled::clip::across` meets its contract. Each call's result is the definition's number. Assumes nothing.
 use borrow.Author.Needs.{needs}
-use mathlib.Core.Path.{_≡_, _∙_}
-use mir.Syntax.{w64}
-use mir.Val.{toZ, ofZ}
-use Rattle.object.specs.Measure.{quarters}
+use mathlib.Core.Path.{_≡_}
+use lib.IntN.{pos}
 use Rattle.signed.specs.Diff.{zarith}
-use Rattle.signed.specs.Word.{rk}
-use Rattle.scaled.specs.Clip.{moved, kept, lossOf}
-use Rattle.scaled.specs.Range.{reads-edge, reads15, edge-le}
+use Rattle.object.specs.Measure.{edge, inQuarters}
+use Rattle.object.specs.Range.{Below}
+use Rattle.scaled.specs.Range.{reads-edge, extent-le}
 use Rattle.scaled.proofs.clip.across.Statement.{statement}
 use Rattle.scaled.proofs.clip.across.Tie as tie
 
-quarters-requires : tie.Need-quarters-requires
-quarters-requires c κs = search needs
-
-quarters-requires-2 : tie.Need-quarters-requires-2
-quarters-requires-2 c κs = search needs
-
 removed-of-requires : tie.Need-removed-of-requires
-removed-of-requires c κs = omega zarith
+removed-of-requires c κs = search needs
 
-loss-is : (c : tie.After-removed-of) → c .removed-of .result ≡ lossOf (c .before .before .before .args .bg)
-loss-is c = rw (c .before .before .quarters .ensures, c .before .quarters2 .ensures) at (c .removed-of .ensures .0)
+removed-in : (c : tie.After-removed-of) → Below 17 (c .removed-of .result .0)
+removed-in c =
+    let l = rw (c .removed-of .ensures .0) at (c .removed-of .ensures .1) in
+    rw (c .removed-of .ensures .0) (record { low = omega zarith; high = omega (zarith, extent-le (c .before .pre .passed .range .frame-w)) })
 
 x-of-requires : tie.Need-x-of-requires
-x-of-requires c κs = rw (reads15 (c .before .before .before .before .pre .passed .range .frame-x)) (omega zarith)
+x-of-requires c κs = (c .before .pre .passed .range .frame-x, removed-in c)
 
 width-of-requires : tie.Need-width-of-requires
-width-of-requires c κs = omega zarith
+width-of-requires c κs = ((c .before .before .pre .passed .range .frame-w, removed-in (c .before)), c .before .removed-of .ensures .1)
 
-edge-of-requires : tie.Need-edge-of-requires
-edge-of-requires c κs = search needs
+edge-requires : tie.Need-edge-requires
+edge-requires c κs = search needs
 
-edge-of-requires-2 : tie.Need-edge-of-requires-2
-edge-of-requires-2 c κs = search needs
+edge-requires-2 : tie.Need-edge-requires-2
+edge-requires-2 c κs = search needs
 
-x-is : (c : tie.After-x-of) → toZ w64 (ofZ w64 (c .x-of .result)) ≡ moved (c .before .before .before .before .before .args .bg .«frame_x» .0) (c .before .before .before .before .before .args .flip) (lossOf (c .before .before .before .before .before .args .bg))
-x-is c = rk _ (c .x-of .ok) ∙ rw (reads15 (c .before .before .before .before .before .pre .passed .range .frame-x), loss-is (c .before .before)) at (c .x-of .ensures .0)
+low-is : (c : tie.After-edge) → c .edge .result ≡ inQuarters (pos (edge (c .before .before .before .before .before .args .scissor .ulx)))
+low-is c = rw (reads-edge (c .before .before .before .before .before .pre .passed .edges .ulx)) at (c .edge .ensures)
 
-width-is : (c : tie.After-width-of) → toZ w64 (ofZ w64 (c .width-of .result)) ≡ kept (quarters (c .before .before .before .before .before .before .args .bg .«frame_w»)) (lossOf (c .before .before .before .before .before .before .args .bg))
-width-is c = rk _ (c .width-of .ok) ∙ rw (c .before .before .before .before .before .quarters .ensures, loss-is (c .before .before .before)) at (c .width-of .ensures .0)
+high-is : (c : tie.After-edge2) → c .edge2 .result ≡ inQuarters (pos (edge (c .before .before .before .before .before .before .before .args .scissor .lrx)))
+high-is c = rw (reads-edge (c .before .before .before .before .before .before .before .pre .passed .edges .lrx)) at (c .edge2 .ensures)
 
 cut-axis-requires : tie.Need-cut-axis-requires
 cut-axis-requires c κs =
-    let e = c .before .before .before .before .before .before .before .before .before .before .pre .passed .edges in
-    rw (rk (c .before .before .before .before .before .x-of .result) (c .before .before .before .before .before .x-of .ok), rk (c .before .before .before .before .width-of .result) (c .before .before .before .before .width-of .ok), c .before .before .edge-of .ensures, c .edge-of2 .ensures, reads-edge (e .ulx), reads-edge (e .lrx))
-    ((edge-le (e .ulx), edge-le (e .lrx)), (c .before .before .before .before .before .x-of .ensures .1, c .before .before .before .before .width-of .ensures .1))
+    let p = c .before .before .before .before .before .before .before .pre .passed in
+    rw (low-is (c .before .before), high-is c)
+    ((record { low = omega zarith; high = omega zarith }, record { low = omega zarith; high = omega zarith }), (c .before .before .before .before .before .x-of .ensures .1, c .before .before .before .before .width-of .ensures .1))
 
 returns : tie.Need-returns
-returns c =
-    let p = c .before .before .before .before .before .before .before .before .before .before .before .pre .passed in
-    rw (x-is (c .before .before .before .before .before .before), width-is (c .before .before .before .before .before), c .before .before .before .edge-of .ensures, c .before .edge-of2 .ensures, reads-edge (p .edges .ulx), reads-edge (p .edges .lrx)) at (c .cut-axis .ensures)
+returns c = rw (low-is (c .before .before .before), high-is (c .before), c .before .before .before .before .before .before .x-of .ensures .0, c .before .before .before .before .before .width-of .ensures .0, c .before .before .before .before .before .before .before .removed-of .ensures .0) at (c .cut-axis .ensures)
 
 pub across-spec : {M : Type 1} → statement M
 across-spec =
     tie.close
     (tie.spec
-    quarters-requires
-    quarters-requires-2
     removed-of-requires
     x-of-requires
     width-of-requires
-    edge-of-requires
-    edge-of-requires-2
+    edge-requires
+    edge-requires-2
     cut-axis-requires
     returns)

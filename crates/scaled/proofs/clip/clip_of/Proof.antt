@@ -31,7 +31,9 @@ clip-is c =
     λ i. record { flip = eqb (c .before .before .before .args .bg .«image_flip» % 2) 1; left = h .near i; top = v .near i; right = h .far i; x = h .start i; y = v .start i; width = h .rest i; height = v .rest i }
 
 returns : tie.Need-returns
-returns c = record { is = clip-is c; filled = λ e. subst Filled (sym (clip-is c)) (clip-filled _ _ (c .before .before .before .pre) (sym (ap scaledEmpty (clip-is c)) ∙ e)) }
+returns c =
+    let d = c .before .before .before .before .before .before .before in
+    record { is = clip-is d; filled = λ e. subst Filled (sym (clip-is d)) (clip-filled _ _ (d .before .before .before .pre) (sym (ap scaledEmpty (clip-is d)) ∙ e)) }
 
 pub clip-of-spec : {M : Type 1} → statement M
 clip-of-spec = tie.close (tie.spec across-requires down-requires returns)

@@ -1,9 +1,13 @@
--- `scaled::clip::cut_axis` meets its contract. Both cuts are read back where they are added. Assumes nothing.
+-- `scaled::clip::cut_axis` meets its contract. The sums are read back, and are the definition's. Assumes nothing.
 use borrow.Author.Needs.{needs}
-use Prim.Native.Nat.{_+_}
+use mathlib.Core.Path.{_≡_}
+use lib.IntN.{pos}
+use mir.Syntax.{w64}
+use mir.Val.{SFits, toZ, ofZ}
 use Rattle.signed.specs.Diff.{zdiff, zarith}
-use Rattle.signed.specs.Word.{rd, rdn}
-use Rattle.scaled.specs.Clip.{startAt, restOf}
+use Rattle.signed.specs.Word.{rd}
+use Rattle.object.specs.Measure.{quarters}
+use Rattle.scaled.specs.Clip.{nearCut, farCut, startAt, restOf}
 use Rattle.scaled.proofs.clip.cut_axis.Statement.{statement}
 use Rattle.scaled.proofs.clip.cut_axis.Tie as tie
 
@@ -13,38 +17,61 @@ near-cut-requires c κs = search needs
 far-cut-requires : tie.Need-far-cut-requires
 far-cut-requires c κs = search needs
 
-cast-positive : tie.Need-cast-positive
-cast-positive c = search needs
+x-reads : (a : tie.Start) → toZ w64 (ofZ w64 (a .args .x .0)) ≡ a .args .x .0
+x-reads a = let f : SFits w64 (a .args .x .0) = omega zarith in rd f
 
-add-positive : tie.Need-add-positive
-add-positive c = rw (rd (c .before .before .fits .x), rdn (c .before .near-cut .result) (cast-positive c .sfits)) (simp zdiff (omega zarith))
+extent-reads : (a : tie.Start) → toZ w64 (ofZ w64 (a .args .extent .0)) ≡ a .args .extent .0
+extent-reads a = let f : SFits w64 (a .args .extent .0) = omega zarith in rd f
 
-positive-requires : tie.Need-positive-requires
-positive-requires c κs = search needs
+near-reads : (c : tie.After-near-cut) → toZ w64 (ofZ w64 (c .near-cut .result .0)) ≡ pos (nearCut (c .before .args .x .0) (quarters (c .before .args .ul)))
+near-reads c =
+    let l = rw (c .near-cut .ensures .0) at (c .near-cut .ensures .1) in
+    let f : SFits w64 (pos (nearCut (c .before .args .x .0) (quarters (c .before .args .ul)))) = omega zarith in
+    rw (c .near-cut .ensures .0) (rd f)
 
-add-positive-2 : tie.Need-add-positive-2
-add-positive-2 c = search needs
+far-reads : (c : tie.After-far-cut) → toZ w64 (ofZ w64 (c .far-cut .result .0)) ≡ pos (farCut (c .before .before .args .x .0) (c .before .before .args .extent .0) (quarters (c .before .before .args .lr)))
+far-reads c =
+    let l = rw (c .far-cut .ensures .0) at (c .far-cut .ensures .1) in
+    let f : SFits w64 (pos (farCut (c .before .before .args .x .0) (c .before .before .args .extent .0) (quarters (c .before .before .args .lr)))) = omega zarith in
+    rw (c .far-cut .ensures .0) (rd f)
 
-cast-positive-2 : tie.Need-cast-positive-2
-cast-positive-2 c = search needs
+add-extent : tie.Need-add-extent
+add-extent c =
+    let n = c .before .before .before .before .before in
+    let l = rw (n .near-cut .ensures .0) at (n .near-cut .ensures .1) in
+    rw (x-reads (n .before), near-reads n) (simp zdiff (omega zarith))
 
-sub-positive : tie.Need-sub-positive
-sub-positive c = rw (rd (c .before .before .before .fits .extent), rdn (c .before .before .near-cut .result + c .before .far-cut .result) (cast-positive-2 c .sfits)) (simp zdiff (omega zarith))
+extent-requires : tie.Need-extent-requires
+extent-requires c κs = search needs
 
-positive-requires-2 : tie.Need-positive-requires-2
-positive-requires-2 c κs = search needs
+add-extent-2 : tie.Need-add-extent-2
+add-extent-2 c =
+    let f = c .before .before .before .before .before .before .before .before .before in
+    let l = rw (f .before .near-cut .ensures .0) at (f .before .near-cut .ensures .1) in
+    let k = rw (f .far-cut .ensures .0) at (f .far-cut .ensures .1) in
+    rw (near-reads (f .before), far-reads f) (omega zarith)
+
+sub-extent : tie.Need-sub-extent
+sub-extent c =
+    let f = c .before .before .before .before .before .before .before .before .before .before .before in
+    let l = rw (f .before .near-cut .ensures .0) at (f .before .near-cut .ensures .1) in
+    let k = rw (f .far-cut .ensures .0) at (f .far-cut .ensures .1) in
+    rw (extent-reads (f .before .before), rd (add-extent-2 (c .before .before)), near-reads (f .before), far-reads f) (simp zdiff (omega zarith))
+
+extent-requires-2 : tie.Need-extent-requires-2
+extent-requires-2 c κs = search needs
 
 returns : tie.Need-returns
 unfolding startAt restOf
 returns c =
-    let s = c .before .before .before .before in
-    let n = rw (rd (s .fits .x)) at (c .before .before .before .near-cut .ensures .0) in
-    let f = rw (rd (s .fits .x), rd (s .fits .extent)) at (c .before .before .far-cut .ensures .0) in
+    let f = c .before .before .before .before .before .before .before .before .before .before .before .before in
+    let n = f .before in
+    let a = n .before in
     record {
-      near = n;
-      far = f;
-      start = rw (rd (add-positive (c .before .before)), rd (s .fits .x), rdn (c .before .before .before .near-cut .result) (cast-positive (c .before .before) .sfits), n) at (c .before .positive .ensures);
-      rest = rw (rd (sub-positive (c .before)), rd (s .fits .extent), rdn (c .before .before .before .near-cut .result + c .before .before .far-cut .result) (cast-positive-2 (c .before) .sfits), n, f) at (c .positive2 .ensures);
+      near = n .near-cut .ensures .0;
+      far = f .far-cut .ensures .0;
+      start = rw (rd (add-extent (c .before .before .before .before .before .before .before .before)), x-reads a, near-reads n) at (c .before .before .before .before .before .before .before .extent .ensures);
+      rest = rw (rd (sub-extent (c .before)), extent-reads a, rd (add-extent-2 (c .before .before .before)), near-reads n, far-reads f) at (c .extent2 .ensures);
     }
 
 pub cut-axis-spec : {M : Type 1} → statement M
@@ -53,11 +80,9 @@ cut-axis-spec =
     (tie.spec
     near-cut-requires
     far-cut-requires
-    cast-positive
-    add-positive
-    positive-requires
-    add-positive-2
-    cast-positive-2
-    sub-positive
-    positive-requires-2
+    add-extent
+    extent-requires
+    add-extent-2
+    sub-extent
+    extent-requires-2
     returns)

@@ -1,34 +1,51 @@
--- `scaled::clip::height_of` meets its contract. Each way decides which is smaller. Assumes nothing.
+-- `scaled::clip::height_of` meets its contract. Each way decides the smaller of the two. Assumes nothing.
 use borrow.Author.Needs.{needs}
-use Rattle.signed.specs.Diff.{zarith}
-use Rattle.signed.specs.Word.{rdn, rk}
+use mathlib.Core.Path.{_≡_, sym, ap}
+use lib.Dec.{lit≤}
+use lib.IntN.{pos}
+use lib.Signed.{_≤ℤ_}
+use mir.Syntax.{w64}
+use mir.Val.{SFits, toZ, ofZ}
+use Rattle.signed.specs.Diff.{ge-dn, zarith}
+use Rattle.signed.specs.Word.{rd}
+use Rattle.object.specs.declared.types.Quarters.{Quarters}
+use Rattle.object.specs.Measure.{quarters, inQuarters}
+use Rattle.object.specs.Range.{counted, below-read}
 use Rattle.scaled.specs.Clip.{lower}
-use mathlib.Core.Path.{refl}
 use Rattle.scaled.proofs.clip.height_of.Statement.{statement}
 use Rattle.scaled.proofs.clip.height_of.Tie as tie
 
 max-of-requires : tie.Need-max-of-requires
 max-of-requires c κs = search needs
 
-cast-all : tie.Need-cast-all
-cast-all c = search needs
+frame-reads : (a : tie.Start) → toZ w64 (ofZ w64 (a .args .frame .0)) ≡ a .args .frame .0
+frame-reads a = below-read (lit≤ tt) (a .pre .0)
+
+max-reads : (c : tie.After-max-of) → toZ w64 (ofZ w64 (c .max-of .result .0)) ≡ c .max-of .result .0
+max-reads c =
+    let r = c .max-of .ensures .1 in
+    let f : SFits w64 (c .max-of .result .0) = omega zarith in
+    rd f
 
 returns : tie.Need-returns
 unfolding lower
 returns c =
-    let s = c .before .before in
-    let m = c .before .max-of .ensures in
-    let t = rw (rdn (s .args .frame) (cast-all (c .before) .sfits), rk _ (c .before .max-of .ok), m .0) at (c .if1 .taken) in
-    rw (rdn (s .args .frame) (cast-all (c .before) .sfits), t) (refl, omega zarith)
+    let m = c .before .before .before .before .before in
+    let a = m .before in
+    let t = rw (frame-reads a, max-reads m) at (c .if1 .taken) in
+    let l : lower (quarters (a .args .frame)) (quarters (a .args .image)) (a .args .scale .0) ≡ a .args .frame .0 = rw (counted (a .pre .0 .low), ← ap (λ (q : Quarters). q .0) (m .max-of .ensures .0), t) in
+    let d = ge-dn (a .args .frame .0) 0 (a .pre .0 .low) in
+    (ap inQuarters (sym l), omega zarith)
 
 returns-2 : tie.Need-returns-2
 unfolding lower
 returns-2 c =
-    let s = c .before .before in
-    let m = c .before .max-of .ensures in
-    let l = rw (rdn (s .args .frame) (cast-all (c .before) .sfits), rk _ (c .before .max-of .ok)) at (c .if1 .left) in
-    let t = rw (m .0) at l in
-    rw (rk _ (c .before .max-of .ok), t) (m .0, omega zarith)
+    let m = c .before .before .before .before .before in
+    let a = m .before in
+    let t = rw (frame-reads a, max-reads m) at (c .if1 .left) in
+    let l : lower (quarters (a .args .frame)) (quarters (a .args .image)) (a .args .scale .0) ≡ m .max-of .result .0 = rw (counted (a .pre .0 .low), ← ap (λ (q : Quarters). q .0) (m .max-of .ensures .0), t) in
+    let h : m .max-of .result .0 ≤ℤ pos 65535 = omega zarith in
+    (ap inQuarters (sym l), (m .max-of .ensures .1 .0, h))
 
 pub height-of-spec : {M : Type 1} → statement M
-height-of-spec = tie.close (tie.spec max-of-requires cast-all returns returns-2)
+height-of-spec = tie.close (tie.spec max-of-requires returns returns-2)

@@ -1,33 +1,37 @@
 -- `scaled::clip::near_cut` meets its contract. The difference is read back, and is bounded. Assumes nothing.
 use borrow.Author.Needs.{needs}
-use Prim.Native.Nat.{_*_, _≤_}
+use mathlib.Core.Path.{_≡_, ap, _∙_}
+use lib.Dec.{lit≤}
 use lib.IntN.{pos, _-ℤ_}
-use Rattle.signed.specs.Diff.{up, zdiff, zparts, zarith}
-use Rattle.signed.specs.Word.{rd, rdn}
+use mir.Syntax.{w64}
+use mir.Val.{SFits, toZ, ofZ}
+use Rattle.signed.specs.Diff.{zdiff, zparts, zarith}
+use Rattle.signed.specs.Word.{rd}
+use Rattle.object.specs.Measure.{quarters, extent}
+use Rattle.object.specs.Range.{counted, below-read}
 use Rattle.scaled.specs.Clip.{nearCut}
 use Rattle.scaled.proofs.clip.near_cut.Statement.{statement}
 use Rattle.scaled.proofs.clip.near_cut.Tie as tie
 
-mul-positive : tie.Need-mul-positive
-mul-positive c = search needs
+x-reads : (a : tie.Start) → toZ w64 (ofZ w64 (a .args .x .0)) ≡ a .args .x .0
+x-reads a = let f : SFits w64 (a .args .x .0) = omega zarith in rd f
 
-cast-positive : tie.Need-cast-positive
-cast-positive c = search needs
+ul-reads : (a : tie.Start) → toZ w64 (ofZ w64 (a .args .ul .0)) ≡ a .args .ul .0
+ul-reads a = below-read (lit≤ tt) (a .pre .0)
 
-sub-positive : tie.Need-sub-positive
-sub-positive c = rw (rdn (c .args .ul * 4) (cast-positive c .sfits), rd (c .fits .x)) (simp zdiff (omega zarith))
+sub-extent : tie.Need-sub-extent
+sub-extent c = let a = c .before .before .before .before in rw (ul-reads a, x-reads a) (simp zdiff (omega zarith))
 
-positive-requires : tie.Need-positive-requires
-positive-requires c κs = search needs
+extent-requires : tie.Need-extent-requires
+extent-requires c κs = search needs
 
 returns : tie.Need-returns
 unfolding nearCut
 returns c =
-    let s = c .before in
-    let e = rw (rd (sub-positive s), rdn (s .args .ul * 4) (cast-positive s .sfits), rd (s .fits .x)) at (c .positive .ensures) in
-    let b : up (pos (s .args .ul * 4) -ℤ s .args .x) ≤ 36860 = simp zdiff (simp zparts (omega zarith)) in
-    (e, omega (zarith, e))
+    let a = c .before .before .before .before .before in
+    let e = rw (rd (sub-extent (c .before)), ul-reads a, x-reads a) at (c .extent .ensures) in
+    let g : a .args .ul .0 -ℤ a .args .x .0 ≡ pos (quarters (a .args .ul)) -ℤ a .args .x .0 = rw (counted (a .pre .0 .low)) in
+    (e ∙ ap extent g, rw e (simp zdiff (simp zparts (omega zarith))))
 
 pub near-cut-spec : {M : Type 1} → statement M
-near-cut-spec =
-    tie.close (tie.spec mul-positive cast-positive sub-positive positive-requires returns)
+near-cut-spec = tie.close (tie.spec sub-extent extent-requires returns)

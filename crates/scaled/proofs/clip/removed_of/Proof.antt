@@ -1,38 +1,49 @@
--- `scaled::clip::removed_of` meets its contract. The difference is read back, and is bounded. Assumes nothing.
+-- `scaled::clip::removed_of` meets its contract. The difference is read back; a frame is not negative, and the greatest extent at least −4. Assumes nothing.
 use borrow.Author.Needs.{needs}
-use mir.Syntax.{w64}
-use mir.Val.{SFits}
-use Prim.Native.Nat.{_+_, _≤_}
+use mathlib.Core.Path.{_≡_, ap, _∙_}
+use lib.Dec.{lit≤}
 use lib.IntN.{pos, _-ℤ_}
-use Rattle.signed.specs.Diff.{up, zdiff, zparts, zarith}
-use Rattle.signed.specs.Word.{rd, rdn, rk}
-use Rattle.scaled.specs.Clip.{removed}
+use mir.Syntax.{w64}
+use mir.Val.{SFits, toZ, ofZ}
+use Rattle.signed.specs.Diff.{ge-dn, zdiff, zparts, zarith}
+use Rattle.signed.specs.Word.{rd}
+use Rattle.object.specs.Measure.{quarters, extent}
+use Rattle.object.specs.Range.{counted, below-read}
+use Rattle.scaled.specs.Clip.{greatest, removed}
 use Rattle.scaled.proofs.clip.removed_of.Statement.{statement}
 use Rattle.scaled.proofs.clip.removed_of.Tie as tie
-
-cast-positive : tie.Need-cast-positive
-cast-positive c = search needs
 
 max-of-requires : tie.Need-max-of-requires
 max-of-requires c κs = search needs
 
-sub-positive : tie.Need-sub-positive
-sub-positive c =
-    let g : SFits w64 (pos (c .before .args .frame) -ℤ c .max-of .result) = simp zdiff (omega zarith) in
-    rw (rdn (c .before .args .frame) (cast-positive (c .before) .sfits), rk _ (c .max-of .ok)) g
+frame-reads : (a : tie.Start) → toZ w64 (ofZ w64 (a .args .frame .0)) ≡ a .args .frame .0
+frame-reads a = below-read (lit≤ tt) (a .pre .0)
 
-positive-requires : tie.Need-positive-requires
-positive-requires c κs = search needs
+max-reads : (c : tie.After-max-of) → toZ w64 (ofZ w64 (c .max-of .result .0)) ≡ c .max-of .result .0
+max-reads c =
+    let r = c .max-of .ensures .1 in
+    let f : SFits w64 (c .max-of .result .0) = omega zarith in
+    rd f
+
+sub-extent : tie.Need-sub-extent
+sub-extent c =
+    let a = c .before .before .before .before .before in
+    let r = c .before .before .before .before .max-of .ensures .1 in
+    rw (frame-reads a, max-reads (c .before .before .before .before)) (simp zdiff (omega zarith))
+
+extent-requires : tie.Need-extent-requires
+extent-requires c κs = search needs
 
 returns : tie.Need-returns
 unfolding removed
 returns c =
-    let s = c .before .before in
-    let m = c .before .max-of .ensures in
-    let e = rw (rd (sub-positive (c .before)), rdn (s .args .frame) (cast-positive s .sfits), rk _ (c .before .max-of .ok)) at (c .positive .ensures) in
-    let b : up (pos (s .args .frame) -ℤ c .before .max-of .result) ≤ s .args .frame + 4 = simp zdiff (simp zparts (omega zarith)) in
-    (rw (m .0) at e, omega (zarith, e))
+    let m = c .before .before .before .before .before in
+    let a = m .before in
+    let e = rw (rd (sub-extent (c .before)), frame-reads a, max-reads m) at (c .extent .ensures) in
+    let g : a .args .frame .0 -ℤ m .max-of .result .0 ≡ pos (quarters (a .args .frame)) -ℤ greatest (quarters (a .args .image)) (a .args .scale .0) = rw (counted (a .pre .0 .low), m .max-of .ensures .0) in
+    let d = ge-dn (a .args .frame .0) 0 (a .pre .0 .low) in
+    let r = m .max-of .ensures .1 in
+    (e ∙ ap extent g, rw e (simp zdiff (simp zparts (omega zarith))))
 
 pub removed-of-spec : {M : Type 1} → statement M
-removed-of-spec =
-    tie.close (tie.spec cast-positive max-of-requires sub-positive positive-requires returns)
+removed-of-spec = tie.close (tie.spec max-of-requires sub-extent extent-requires returns)

@@ -1,26 +1,34 @@
 -- `scaled::clip::width_of` meets its contract. The difference is read back. Assumes nothing.
-use borrow.Author.Needs.{needs}
-use mathlib.Core.Path.{refl}
-use Rattle.signed.specs.Diff.{zdiff, zarith}
-use Rattle.signed.specs.Word.{rd, rdn}
+use mathlib.Core.Path.{_≡_, ap}
+use lib.Dec.{lit≤}
+use lib.IntN.{_-ℤ_}
+use mir.Syntax.{w64}
+use mir.Val.{toZ, ofZ}
+use Rattle.signed.specs.Diff.{ge-dn, zdiff, zarith}
+use Rattle.signed.specs.Word.{rd}
+use Rattle.object.specs.Measure.{quarters, inQuarters}
+use Rattle.object.specs.Range.{counted, below-read}
 use Rattle.scaled.specs.Clip.{kept}
 use Rattle.scaled.proofs.clip.width_of.Statement.{statement}
 use Rattle.scaled.proofs.clip.width_of.Tie as tie
 
-cast-result : tie.Need-cast-result
-cast-result c = search needs
+frame-reads : (a : tie.Start) → toZ w64 (ofZ w64 (a .args .frame-w .0)) ≡ a .args .frame-w .0
+frame-reads a = below-read (lit≤ tt) (a .pre .0 .0)
 
-cast-result-2 : tie.Need-cast-result-2
-cast-result-2 c = search needs
+removed-reads : (a : tie.Start) → toZ w64 (ofZ w64 (a .args .removed-w .0)) ≡ a .args .removed-w .0
+removed-reads a = below-read (lit≤ tt) (a .pre .0 .1)
 
-sub-result : tie.Need-sub-result
-sub-result c = rw (rdn (c .args .frame-w) (cast-result c .sfits), rdn (c .args .removed-w) (cast-result-2 c .sfits)) (simp zdiff (omega zarith))
+sub-t3 : tie.Need-sub-t3
+sub-t3 c = let a = c .before .before .before .before in rw (frame-reads a, removed-reads a) (simp zdiff (omega zarith))
 
 returns : tie.Need-returns
 unfolding kept
 returns c =
-    rw (rd (sub-result c), rdn (c .args .frame-w) (cast-result c .sfits), rdn (c .args .removed-w) (cast-result-2 c .sfits))
-    (refl, simp zdiff (omega zarith))
+    let a = c .before .before .before .before in
+    let g : a .args .frame-w .0 -ℤ a .args .removed-w .0 ≡ kept (quarters (a .args .frame-w)) (quarters (a .args .removed-w)) = rw (counted (a .pre .0 .0 .low), counted (a .pre .0 .1 .low)) in
+    let d = ge-dn (a .args .frame-w .0) 0 (a .pre .0 .0 .low) in
+    let r = ge-dn (a .args .removed-w .0) 0 (a .pre .0 .1 .low) in
+    rw (rd (sub-t3 c), frame-reads a, removed-reads a) (ap inQuarters g, simp zdiff (omega zarith))
 
 pub width-of-spec : {M : Type 1} → statement M
-width-of-spec = tie.close (tie.spec cast-result cast-result-2 sub-result returns)
+width-of-spec = tie.close (tie.spec sub-t3 returns)

@@ -13,7 +13,7 @@ use Rattle.plan.specs.declared.types.First.{First}
 use Rattle.plan.specs.Scaled.{firstOf}
 use Rattle.plan.specs.Sound.{SoundFirst}
 use Rattle.scaled.specs.First.{sliceStart, sliceOf, startOfSlice}
-use Rattle.scaled.specs.Range.{reads33, reads49}
+use Rattle.scaled.specs.Range.{reads49}
 use Rattle.scaled.specs.FirstLaw.{row-in, firstFrom, first-from, first-sound}
 use Rattle.scaled.proofs.first.first_of.Statement.{statement}
 use Rattle.scaled.proofs.first.first_of.Tie as tie
@@ -27,8 +27,8 @@ image-hidden-of-requires c κs = search needs
 count-of-requires : tie.Need-count-of-requires
 count-of-requires c κs = search needs
 
-low5-requires : tie.Need-low5-requires
-low5-requires c κs = search needs
+row-part-requires : tie.Need-row-part-requires
+row-part-requires c κs = search needs
 
 rows-left-requires : tie.Need-rows-left-requires
 rows-left-requires c κs = search needs
@@ -46,9 +46,9 @@ slice-start-requires c κs =
 
 image-row-requires : tie.Need-image-row-requires
 image-row-requires c κs =
-    let s = c .before .before .before .before .before .before .before .before .before in
-    let r = row-in-range (c .before .before .before .before .before .before .before .before) in
-    rw (rk (c .before .slice-start .result) (c .before .slice-start .ok), c .before .slice-start .ensures, slice-reads (c .before .before .before .before .before .before .before .before), reads33 (s .pre .1))
+    let s = c .before .before .before .before .before .before .before .before in
+    let r = row-in-range (c .before .before .before .before .before .before .before) in
+    rw (rk (c .slice-start .result) (c .slice-start .ok), c .slice-start .ensures, slice-reads (c .before .before .before .before .before .before .before))
     (r, ((s .pre .1 .low, s .pre .1 .high), (omega arith, (s .pre .0 .source-rows, s .pre .0 .source-rows′))))
 
 cast-hidden-rows : tie.Need-cast-hidden-rows
@@ -56,34 +56,34 @@ cast-hidden-rows c = search needs
 
 abbrev first : tie.After-image-row → First
 first c = record {
-  slice = toZ w64 (ofZ w64 (c .before .before .before .before .before .before .before .before .before .cut-of .result .slice));
-  «image_hidden» = toZ w64 (c .before .before .before .before .before .before .before .image-hidden-of .result);
-  count = toZ w64 (ofZ w64 (c .before .before .before .before .before .count-of .result));
-  t = c .before .before .before .before .low5 .result;
-  «slice_rows» = toZ w64 (ofZ w64 (c .before .before .before .rows-left .result));
+  slice = toZ w64 (ofZ w64 (c .before .before .before .before .before .before .before .before .cut-of .result .slice));
+  «image_hidden» = toZ w64 (c .before .before .before .before .before .before .image-hidden-of .result);
+  count = toZ w64 (ofZ w64 (c .before .before .before .before .count-of .result));
+  t = c .before .before .before .row-part .result;
+  «slice_rows» = toZ w64 (ofZ w64 (c .before .before .rows-left .result));
   «image_row» = c .image-row .result;
 }
 
-first-is : (c : tie.After-image-row) → first c ≡ firstOf (c .before .before .before .before .before .before .before .before .before .before .args .z) (c .before .before .before .before .before .before .before .before .before .before .args .i)
+first-is : (c : tie.After-image-row) → first c ≡ firstOf (c .before .before .before .before .before .before .before .before .before .args .z) (c .before .before .before .before .before .before .before .before .before .args .i)
 first-is c =
-    let z = c .before .before .before .before .before .before .before .before .before .before .args .z in
-    let i = c .before .before .before .before .before .before .before .before .before .before .args .i in
-    let u = c .before .before .before .before .before .before .before .before .before .cut-of .ensures in
-    let k = slice-reads (c .before .before .before .before .before .before .before .before .before) ∙ u .slice in
-    let h = c .before .before .before .before .before .before .before .image-hidden-of .ensures .0 in
-    let at : first c ≡ firstFrom z i (sliceOf z i) (startOfSlice z i) (pos (c .before .before .before .before .before .before .before .before .before .cut-of .result .hidden)) = λ j. record {
+    let z = c .before .before .before .before .before .before .before .before .before .args .z in
+    let i = c .before .before .before .before .before .before .before .before .before .args .i in
+    let u = c .before .before .before .before .before .before .before .before .cut-of .ensures in
+    let k = slice-reads (c .before .before .before .before .before .before .before .before) ∙ u .slice in
+    let h = c .before .before .before .before .before .before .image-hidden-of .ensures .0 in
+    let at : first c ≡ firstFrom z i (sliceOf z i) (startOfSlice z i) (pos (c .before .before .before .before .before .before .before .before .cut-of .result .hidden)) = λ j. record {
       slice = k j;
-      «image_hidden» = (rdn (c .before .before .before .before .before .before .before .image-hidden-of .result) (cast-hidden-rows c .sfits) ∙ ap pos h) j;
-      count = (rk (c .before .before .before .before .before .count-of .result) (c .before .before .before .before .before .count-of .ok) ∙ rw (rk (c .before .before .before .before .before .before .before .before .before .cut-of .result .start) (c .before .before .before .before .before .before .struct-told2 .given .1 .0 .1), u .start) at (c .before .before .before .before .before .count-of .ensures)) j;
-      t = (rw h at (c .before .before .before .before .low5 .ensures)) j;
-      «slice_rows» = (rk (c .before .before .before .rows-left .result) (c .before .before .before .rows-left .ok) ∙ rw h at (c .before .before .before .rows-left .ensures)) j;
-      «image_row» = (rw (rk (c .before .before .slice-start .result) (c .before .before .slice-start .ok), c .before .before .slice-start .ensures, k, reads33 (c .before .before .before .before .before .before .before .before .before .before .pre .1), h) at (c .image-row .ensures)) j;
+      «image_hidden» = (rdn (c .before .before .before .before .before .before .image-hidden-of .result) (cast-hidden-rows c .sfits) ∙ ap pos h) j;
+      count = (rk (c .before .before .before .before .count-of .result) (c .before .before .before .before .count-of .ok) ∙ rw (rk (c .before .before .before .before .before .before .before .before .cut-of .result .start) (c .before .before .before .before .before .struct-told2 .given .1 .0 .1), u .start) at (c .before .before .before .before .count-of .ensures)) j;
+      t = (rw h at (c .before .before .before .row-part .ensures)) j;
+      «slice_rows» = (rk (c .before .before .rows-left .result) (c .before .before .rows-left .ok) ∙ rw h at (c .before .before .rows-left .ensures)) j;
+      «image_row» = (rw (rk (c .before .slice-start .result) (c .before .slice-start .ok), c .before .slice-start .ensures, k, h) at (c .image-row .ensures)) j;
     } in
     at ∙ ap (firstFrom z i (sliceOf z i) (startOfSlice z i)) (u .hidden) ∙ first-from z i
 
 returns : tie.Need-returns
 returns c =
-    let s = c .before .before .before .before .before .before .before .before .before .before in
+    let s = c .before .before .before .before .before .before .before .before .before in
     let i = first-is c in
     record { is = i; sound = subst (SoundFirst (s .args .z)) (sym i) (first-sound (s .args .z) (s .args .i) (s .pre .0)) }
 
@@ -94,7 +94,7 @@ first-of-spec =
     cut-of-requires
     image-hidden-of-requires
     count-of-requires
-    low5-requires
+    row-part-requires
     rows-left-requires
     slice-start-requires
     image-row-requires

@@ -1,25 +1,33 @@
--- `scaled::first::image_offset` meets its contract. The difference is read back, and the shift is a product. Assumes nothing.
-use borrow.Author.Needs.{needs}
-use mathlib.Core.Path.{refl}
+-- `scaled::first::image_offset` meets its contract. The difference is read back. Assumes nothing.
+use mathlib.Core.Path.{_≡_, _∙_}
+use lib.Dec.{lit≤}
 use mir.Syntax.{w64}
+use mir.Val.{SFits, toZ, ofZ}
 use Rattle.signed.specs.Diff.{zdiff, zarith}
-use Rattle.signed.specs.Word.{rd, rdn, shl-word}
+use Rattle.signed.specs.Word.{rd, rk}
+use Rattle.object.specs.Range.{below-read}
 use Rattle.scaled.specs.First.{imageOffset}
 use Rattle.scaled.proofs.first.image_offset.Statement.{statement}
 use Rattle.scaled.proofs.first.image_offset.Tie as tie
 
-cast-result : tie.Need-cast-result
-cast-result c = search needs
+y-reads : (a : tie.Start) → toZ w64 (ofZ w64 (a .args .y .0)) ≡ a .args .y .0
+y-reads a = below-read (lit≤ tt) (a .pre .0)
 
-sub-result : tie.Need-sub-result
-sub-result c = rw (rd (c .fits .origin), rdn (c .args .y) (cast-result c .sfits)) (simp zdiff (omega zarith))
+origin-reads : (a : tie.Start) → toZ w64 (ofZ w64 (a .args .origin .0)) ≡ a .args .origin .0
+origin-reads a = let f : SFits w64 (a .args .origin .0) = omega zarith in rd f
+
+sub-t3 : tie.Need-sub-t3
+sub-t3 c = let a = c .before .before .before .before in rw (y-reads a, origin-reads a) (simp zdiff (omega zarith))
+
+of-position-requires : tie.Need-of-position-requires
+of-position-requires c κs = let a = c .before .before .before .before in rw (rd (sub-t3 c), y-reads a, origin-reads a) (record { low = simp zdiff (omega zarith); high = simp zdiff (omega zarith) })
 
 returns : tie.Need-returns
 unfolding imageOffset
 returns c =
-    let s = rw (rd (c .fits .origin), rdn (c .args .y) (cast-result c .sfits)) at (sub-result c) in
-    rw (rd (c .fits .origin), rdn (c .args .y) (cast-result c .sfits), shl-word w64 _ 32 s (simp zdiff (omega zarith)))
-    (refl, simp zdiff (omega zarith))
+    let a = c .before .before .before .before .before in
+    let e = rk _ (c .of-position .ok) ∙ rw (rd (sub-t3 (c .before)), y-reads a, origin-reads a) at (c .of-position .ensures) in
+    (e, rw e (simp zdiff (omega zarith)))
 
 pub image-offset-spec : {M : Type 1} → statement M
-image-offset-spec = tie.close (tie.spec cast-result sub-result returns)
+image-offset-spec = tie.close (tie.spec sub-t3 of-position-requires returns)

@@ -1,29 +1,40 @@
 -- `scaled::start::origin_of` meets its contract. The sums are read back, outermost first. Assumes nothing.
-use borrow.Author.Needs.{needs}
-use mathlib.Core.Path.{refl}
-use Rattle.signed.specs.Diff.{zdiff, zarith}
-use Rattle.signed.specs.Word.{rd, rdn}
+use mathlib.Core.Path.{_≡_, ap}
+use lib.Dec.{lit≤}
+use lib.IntN.{_+ℤ_, _-ℤ_}
+use mir.Syntax.{w64}
+use mir.Val.{SFits, toZ, ofZ}
+use Rattle.signed.specs.Diff.{ge-dn, zdiff, zarith}
+use Rattle.signed.specs.Word.{rd}
+use Rattle.object.specs.Measure.{thirtySeconds, inThirtySeconds}
+use Rattle.object.specs.Range.{below-read}
 use Rattle.scaled.specs.Strip.{originOf}
 use Rattle.scaled.proofs.start.origin_of.Statement.{statement}
 use Rattle.scaled.proofs.start.origin_of.Tie as tie
 
-cast-result : tie.Need-cast-result
-cast-result c = search needs
+origin-reads : (a : tie.Start) → toZ w64 (ofZ w64 (a .args .origin .0)) ≡ a .args .origin .0
+origin-reads a = let f : SFits w64 (a .args .origin .0) = omega zarith in rd f
 
-add-result : tie.Need-add-result
-add-result c = rw (rd (c .fits .origin), rdn (c .args .down) (cast-result c .sfits)) (simp zdiff (omega zarith))
+down-reads : (a : tie.Start) → toZ w64 (ofZ w64 (a .args .down .0)) ≡ a .args .down .0
+down-reads a = below-read (lit≤ tt) (a .pre .1 .0)
 
-cast-result-2 : tie.Need-cast-result-2
-cast-result-2 c = search needs
+back-reads : (a : tie.Start) → toZ w64 (ofZ w64 (a .args .back .0)) ≡ a .args .back .0
+back-reads a = below-read (lit≤ tt) (a .pre .1 .1)
 
-sub-result : tie.Need-sub-result
-sub-result c = rw (rd (add-result c), rd (c .fits .origin), rdn (c .args .down) (cast-result c .sfits), rdn (c .args .back) (cast-result-2 c .sfits)) (simp zdiff (omega zarith))
+add-t4 : tie.Need-add-t4
+add-t4 c = let a = c .before .before .before .before in rw (origin-reads a, down-reads a) (simp zdiff (omega zarith))
+
+sub-t5 : tie.Need-sub-t5
+sub-t5 c = let a = c .before .before .before .before .before .before in rw (rd (add-t4 (c .before .before)), origin-reads a, down-reads a, back-reads a) (simp zdiff (omega zarith))
 
 returns : tie.Need-returns
 unfolding originOf
 returns c =
-    rw (rd (sub-result c), rd (add-result c), rd (c .fits .origin), rdn (c .args .down) (cast-result c .sfits), rdn (c .args .back) (cast-result-2 c .sfits))
-    (refl, simp zdiff (omega zarith))
+    let a = c .before .before .before .before .before .before in
+    let d = ge-dn (a .args .down .0) 0 (a .pre .1 .0 .low) in
+    let b = ge-dn (a .args .back .0) 0 (a .pre .1 .1 .low) in
+    let g : a .args .origin .0 +ℤ a .args .down .0 -ℤ a .args .back .0 ≡ originOf (a .args .origin .0) (thirtySeconds (a .args .down)) (thirtySeconds (a .args .back)) = simp zdiff (omega zarith) in
+    rw (rd (sub-t5 c), rd (add-t4 (c .before .before)), origin-reads a, down-reads a, back-reads a) (ap inThirtySeconds g)
 
 pub origin-of-spec : {M : Type 1} → statement M
-origin-of-spec = tie.close (tie.spec cast-result add-result cast-result-2 sub-result returns)
+origin-of-spec = tie.close (tie.spec add-t4 sub-t5 returns)

@@ -2,10 +2,11 @@
 use borrow.Author.Needs.{needs}
 use native.Mathlib.Omega.{arith}
 use native.Mathlib.Nat.{div-le-self}
-use mathlib.Core.Path.{ap}
-use Prim.Native.Nat.{ℕ, _*_, _/_}
 use Rattle.scaled.proofs.strip.bytes_of.Statement.{statement}
 use Rattle.scaled.proofs.strip.bytes_of.Tie as tie
+
+thirty-seconds-requires : tie.Need-thirty-seconds-requires
+thirty-seconds-requires c κs = search needs
 
 shift-of-requires : tie.Need-shift-of-requires
 shift-of-requires c κs = search needs
@@ -14,10 +15,12 @@ div-result : tie.Need-div-result
 div-result c = search needs
 
 mul-result : tie.Need-mul-result
-mul-result c = omega (arith, div-le-self (c .before .args .x) (c .shift-of .result))
+mul-result c = omega (arith, div-le-self (c .before .thirty-seconds .result) (c .shift-of .result))
 
 returns : tie.Need-returns
-returns c = ap (λ (w : ℕ). c .before .args .x / w * 8) (c .shift-of .ensures .0)
+returns c = rw (c .before .thirty-seconds .ensures, c .shift-of .ensures .0)
 
 pub bytes-of-spec : {M : Type 1} → statement M
-bytes-of-spec = tie.close (tie.spec shift-of-requires div-result mul-result returns)
+bytes-of-spec =
+    tie.close
+    (tie.spec thirty-seconds-requires shift-of-requires div-result mul-result returns)

@@ -1,33 +1,25 @@
 -- `scaled::strip::line_of` meets its contract. Each call's result is the definition's number. Assumes nothing.
 use borrow.Author.Needs.{needs}
-use native.Mathlib.Omega.{arith}
-use native.Mathlib.Nat.{div-le-self}
 use mathlib.Core.Path.{refl}
 use Prim.Native.Nat.{_+_, _-_}
+use native.Mathlib.Omega.{arith}
+use native.Mathlib.Nat.{div-le-self}
 use Rattle.scaled.specs.Range.{extent-le}
 use Rattle.scaled.specs.Strip.{lineOf}
 use Rattle.scaled.proofs.strip.line_of.Statement.{statement}
 use Rattle.scaled.proofs.strip.line_of.Tie as tie
 
-quarters-requires : tie.Need-quarters-requires
-quarters-requires c κs = search needs
+in-image-requires : tie.Need-in-image-requires
+in-image-requires c κs = omega (arith, extent-le (c .pre .0 .range .image-w))
 
-mul-source-w : tie.Need-mul-source-w
-mul-source-w c = omega (arith, extent-le (c .before .pre .0 .range .image-w))
-
-quarters-requires-2 : tie.Need-quarters-requires-2
-quarters-requires-2 c κs = search needs
-
-sampled-by-requires : tie.Need-sampled-by-requires
-sampled-by-requires c κs = (omega (arith, extent-le (c .before .before .pre .0 .range .frame-w)), c .before .before .pre .0 .range .scale-w)
+slice-width-requires : tie.Need-slice-width-requires
+slice-width-requires c κs = search needs
 
 shift-of-requires : tie.Need-shift-of-requires
 shift-of-requires c κs = search needs
 
 max-slice-of-requires : tie.Need-max-slice-of-requires
-max-slice-of-requires c κs =
-    let r = c .before .before .before .before .pre .0 .range in
-    omega (arith, extent-le (r .frame-w), extent-le (r .image-w))
+max-slice-of-requires c κs = rw (c .before .before .in-image .ensures) (omega (arith, extent-le (c .before .before .before .pre .0 .range .image-w)))
 
 sub-result : tie.Need-sub-result
 sub-result c = search needs
@@ -47,19 +39,16 @@ returns c =
     rw (
       c .max-slice-of .ensures .0,
       c .before .shift-of .ensures .0,
-      c .before .before .sampled-by .ensures .0,
-      c .before .before .before .quarters2 .ensures,
-      c .before .before .before .before .quarters .ensures,
+      c .before .before .slice-width .ensures .0,
+      c .before .before .before .in-image .ensures,
     ) (refl, omega arith)
 
 pub line-of-spec : {M : Type 1} → statement M
 line-of-spec =
     tie.close
     (tie.spec
-    quarters-requires
-    mul-source-w
-    quarters-requires-2
-    sampled-by-requires
+    in-image-requires
+    slice-width-requires
     shift-of-requires
     max-slice-of-requires
     sub-result

@@ -6,11 +6,11 @@ use Rattle.scaled.specs.Strip.{maxSlice}
 use Rattle.scaled.proofs.strip.max_slice_of.Statement.{statement}
 use Rattle.scaled.proofs.strip.max_slice_of.Tie as tie
 
-mul-least : tie.Need-mul-least
-mul-least c = search needs
+thirty-seconds-requires : tie.Need-thirty-seconds-requires
+thirty-seconds-requires c κs = search needs
 
-add-least : tie.Need-add-least
-add-least c = search needs
+thirty-seconds-requires-2 : tie.Need-thirty-seconds-requires-2
+thirty-seconds-requires-2 c κs = search needs
 
 least-requires : tie.Need-least-requires
 least-requires c κs = search needs
@@ -21,7 +21,16 @@ returns c = rw (eq-eqb _ _ (c .if1 .taken)) (search needs)
 
 returns-2 : tie.Need-returns-2
 unfolding maxSlice
-returns-2 c = rw (ne-eqb _ _ (c .before .if1 .left)) (c .least .ensures, omega arith)
+returns-2 c =
+    let e = c .before .thirty-seconds2 .ensures in
+    rw (ne-eqb _ _ (c .before .before .before .if1 .left)) (rw (c .before .before .thirty-seconds .ensures, e) at (c .least .ensures), omega arith)
 
 pub max-slice-of-spec : {M : Type 1} → statement M
-max-slice-of-spec = tie.close (tie.spec mul-least add-least least-requires returns returns-2)
+max-slice-of-spec =
+    tie.close
+    (tie.spec
+    thirty-seconds-requires
+    thirty-seconds-requires-2
+    least-requires
+    returns
+    returns-2)

@@ -1,8 +1,7 @@
 -- `scaled::strip::rows_of` meets its contract. Each call's result is the definition's number. Assumes nothing.
 use borrow.Author.Needs.{needs}
 use native.Mathlib.Omega.{arith}
-use mathlib.Core.Path.{_≡_, ap}
-use Prim.Native.Nat.{ℕ, _*_, _/_}
+use mathlib.Core.Path.{_≡_}
 use Rattle.scaled.specs.Range.{extent-le}
 use Rattle.scaled.specs.Strip.{rowsOf}
 use Rattle.scaled.specs.StripLaw.{rows-le}
@@ -24,23 +23,23 @@ minus-requires c κs = search needs
 rows-are : (c : tie.After-minus) → c .minus .result ≡ rowsOf (c .before .before .before .args .bg) (c .before .before .before .args .bilerp)
 rows-are c = rw (c .before .scaled-capacity .ensures .is, c .before .before .line-of .ensures .0) at (c .minus .ensures)
 
-frame-rows-of-requires : tie.Need-frame-rows-of-requires
-frame-rows-of-requires c κs = (rw (c .minus .ensures) (rows-le (c .before .scaled-capacity .result) (c .before .before .line-of .result) (c .before .before .before .args .bilerp) (c .before .scaled-capacity .ensures .most)), c .before .before .before .pre .0 .scale-h)
+lines-at-requires : tie.Need-lines-at-requires
+lines-at-requires c κs = (rw (c .minus .ensures) (rows-le (c .before .scaled-capacity .result) (c .before .before .line-of .result) (c .before .before .before .args .bilerp) (c .before .scaled-capacity .ensures .most)), c .before .before .before .pre .0 .scale-h)
 
-quarters-requires : tie.Need-quarters-requires
-quarters-requires c κs = search needs
+in-image-requires : tie.Need-in-image-requires
+in-image-requires c κs = omega (arith, extent-le (c .before .before .before .before .pre .0 .range .image-h))
 
-mul-source-rows : tie.Need-mul-source-rows
-mul-source-rows c = omega (arith, extent-le (c .before .before .before .before .before .pre .0 .range .image-h))
+whole-texels-requires : tie.Need-whole-texels-requires
+whole-texels-requires c κs = search needs
 
 returns : tie.Need-returns
 returns c =
-    let r = rows-are (c .before .before) in
+    let r = rows-are (c .before .before .before) in
     record {
-      line = c .before .before .before .before .line-of .ensures .0;
+      line = c .before .before .before .before .before .line-of .ensures .0;
       image-rows = r;
-      frame-rows = rw r at (c .before .frame-rows-of .ensures);
-      source-rows = ap (λ (n : ℕ). n * 8 / 32) (c .quarters .ensures);
+      frame-rows = rw r at (c .before .before .lines-at .ensures);
+      source-rows = rw (c .before .in-image .ensures) at (c .whole-texels .ensures);
     }
 
 pub rows-of-spec : {M : Type 1} → statement M
@@ -51,7 +50,7 @@ rows-of-spec =
     scaled-capacity-requires
     div-minus
     minus-requires
-    frame-rows-of-requires
-    quarters-requires
-    mul-source-rows
+    lines-at-requires
+    in-image-requires
+    whole-texels-requires
     returns)

@@ -1,31 +1,41 @@
--- `scaled::strip::s_of` meets its contract. Each way reads back the number that it casts. Assumes nothing.
-use borrow.Author.Needs.{needs}
-use Prim.Native.Nat.{_+_}
-use Rattle.signed.specs.Diff.{zdiff, zarith}
-use Rattle.signed.specs.Word.{rd, rdn}
+-- `scaled::strip::s_of` meets its contract. Each way reads back the numbers. Assumes nothing.
+use mathlib.Core.Path.{_≡_, ap}
+use lib.Dec.{lit≤}
+use lib.IntN.{pos, _+ℤ_, _-ℤ_}
+use mir.Syntax.{w64}
+use mir.Val.{toZ, ofZ}
+use Rattle.signed.specs.Diff.{ge-dn, zdiff, zarith}
+use Rattle.signed.specs.Word.{rd}
+use Rattle.object.specs.Measure.{thirtySeconds, inThirtySeconds}
+use Rattle.object.specs.Range.{counted, below-read}
 use Rattle.scaled.specs.Strip.{sOf}
 use Rattle.scaled.proofs.strip.s_of.Statement.{statement}
 use Rattle.scaled.proofs.strip.s_of.Tie as tie
 
-add-result : tie.Need-add-result
-add-result c = search needs
+column-reads : (a : tie.Start) → toZ w64 (ofZ w64 (a .args .column .0)) ≡ a .args .column .0
+column-reads a = below-read (lit≤ tt) (a .pre .0)
 
-cast-result : tie.Need-cast-result
-cast-result c = search needs
+width-reads : (a : tie.Start) → toZ w64 (ofZ w64 (a .args .image-width .0)) ≡ a .args .image-width .0
+width-reads a = below-read (lit≤ tt) (a .pre .1)
 
-sub-result : tie.Need-sub-result
-sub-result c = rw (rdn (c .before .args .column + c .before .args .image-width) (cast-result c .sfits)) (simp zdiff (omega zarith))
+add-t6 : tie.Need-add-t6
+add-t6 c = let a = c .before .before .before .before .before in rw (column-reads a, width-reads a) (simp zdiff (omega zarith))
 
-cast-result-2 : tie.Need-cast-result-2
-cast-result-2 c = search needs
+sub-t7 : tie.Need-sub-t7
+sub-t7 c = let a = c .before .before .before .before .before in rw (rd (add-t6 c), column-reads a, width-reads a) (simp zdiff (omega zarith))
 
 returns : tie.Need-returns
 unfolding sOf
-returns c = rw (rd (sub-result c), rdn (c .before .args .column + c .before .args .image-width) (cast-result c .sfits), c .if1 .taken) (simp zdiff (omega zarith))
+returns c =
+    let a = c .before .before .before .before .before in
+    let d = ge-dn (a .args .column .0) 0 (a .pre .0 .low) in
+    let r = ge-dn (a .args .image-width .0) 0 (a .pre .1 .low) in
+    let g : pos 0 -ℤ (a .args .column .0 +ℤ a .args .image-width .0) ≡ sOf (a .args .flip) (thirtySeconds (a .args .column)) (thirtySeconds (a .args .image-width)) = rw (c .before .before .before .before .if1 .taken) (simp zdiff (omega zarith)) in
+    rw (rd (sub-t7 c), rd (add-t6 c), column-reads a, width-reads a) (ap inThirtySeconds g)
 
 returns-2 : tie.Need-returns-2
 unfolding sOf
-returns-2 c = rw (rdn (c .before .args .column) (cast-result-2 c .sfits), c .if1 .left)
+returns-2 c = let a = c .before in ap inThirtySeconds (rw (c .if1 .left, counted (a .pre .0 .low)))
 
 pub s-of-spec : {M : Type 1} → statement M
-s-of-spec = tie.close (tie.spec add-result cast-result sub-result cast-result-2 returns returns-2)
+s-of-spec = tie.close (tie.spec add-t6 sub-t7 returns returns-2)
