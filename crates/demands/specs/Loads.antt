@@ -15,6 +15,7 @@ use Rattle.signed.specs.Diff.{up}
 use Rattle.object.specs.declared.types.Checked.{Checked}
 use Rattle.object.specs.declared.types.Checked.the-variants as checked
 use Rattle.object.specs.Check.{checkedOf}
+use Rattle.object.specs.Measure.{quarters, texels}
 use Rattle.object.specs.declared.types.Verdict.the-variants as verdict
 use Rattle.tile.specs.declared.bank.Tile.{Tile}
 use Rattle.tile.specs.declared.bank.Bank.{Bank}
@@ -166,7 +167,7 @@ address-begins address offset = by (ltZ (pos address +ℤ offset) (pos 0)) (ltb 
 scaled-loads : (z : Scaled) (c : Clip) (f : First) → LoadsAfter false (entriesOut (scaledPlan z c f))
 unfolding scaledPlan
 scaled-loads z c f = begun (entriesOut (scaledPlan z c f)) (begins-bind (sourceAddress _ _) _ (address-begins _ _) (λ p.
-    first-more 0 (sizeOf z) (z .line % 2 ^ 16) 0 0 0 0 0 0 _ (passes (65 * (c .height / 4)) z (firstPass z c f p))))
+    first-more 0 (sizeOf z) (z .line % 2 ^ 16) 0 0 0 0 0 0 _ (passes (65 * texels (quarters (c .height))) z (firstPass z c f p))))
 
 -- ---- every plan
 

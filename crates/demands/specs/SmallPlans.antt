@@ -7,7 +7,7 @@ use Prim.Native.Nat.{ℕ, zero, suc, _+_, _-_, _*_, _/_, _%_, _^_, _≤_, _<_}
 use native.Mathlib.Omega.{arith}
 use native.Mathlib.Nat.{mul-le-mul}
 use lib.Dec.{ltb, eqb}
-use lib.IntN.{ℤ, pos, negℤ, _+ℤ_, _-ℤ_, _*ℤ_}
+use lib.IntN.{ℤ, pos, negsuc, negℤ, _+ℤ_, _-ℤ_, _*ℤ_}
 use lib.ListN.{length}
 use lib.Signed.{ltZ, leZ}
 use borrow.Author.Tests.{ltb-true}
@@ -20,8 +20,9 @@ use Rattle.object.specs.declared.types.Scissor.{Scissor}
 use Rattle.object.specs.declared.types.Checked.{Checked}
 use Rattle.object.specs.declared.types.Checked.the-variants as checked
 use Rattle.object.specs.Check.{checkedOf}
+use Rattle.object.specs.Measure.{quarters, texels, ofTexels}
 use Rattle.object.specs.Layout.{Bytes, layout, valueOf, decode}
-use Rattle.object.specs.Range.{PassedCopy, PassedScaled}
+use Rattle.object.specs.Range.{Below, PassedCopy, PassedScaled}
 use Rattle.object.specs.Reads.{read-below}
 use Rattle.object.specs.Passed.{passed-copy, passed-scaled, checked-copy-is}
 use Rattle.plan.specs.declared.types.Entry.the-variants as entry
@@ -47,6 +48,11 @@ use Rattle.scaled.specs.ClipLaw.{clip-filled}
 use Rattle.scaled.specs.StartLaw.{start-in}
 use Rattle.scaled.specs.StripLaw.{scaled-sound}
 use Rattle.demands.specs.Small.{Small, AllSmall, Few, Any, few-more, few-bind, few-yield, few-stop, few-if, few-wider, few-emit, signed-in, cut-in, few-address, few-load}
+
+-- a measure's number, by its bits
+below-up : (k : ℕ) (z : ℤ) → Below k z → up z ≤ 2 ^ k - 1
+below-up k (pos n) b = omega (zarith, b .high)
+below-up k (negsuc n) b = omega arith
 
 -- ---- copy plans: five entries a strip, and at most one strip a cell
 
@@ -75,9 +81,9 @@ few-entries c y sy h x s k b r =
     (few-load (c .siz) (field c) (c .address) 7 (bound (s .«aligned_left»)) (bound sy) (bound (s .«aligned_left» + s .«load_width» - 1)) (bound (sy + h - 1)) (k .siz) (omega arith) (omega arith) (bound-in (s .«aligned_left»), (bound-in sy, (bound-in (s .«aligned_left» + s .«load_width» - 1), bound-in (sy + h - 1))))))
     (λ _ _.
     few-emit
-    (entry.Rect 0 (c .left + x * 4) (c .top + y * 4) (c .left + (x + s .«strip_width» - 1) * 4) (c .top + (y + h - 1) * 4)
+    (entry.Rect 0 (quarters (c .left) + ofTexels x) (quarters (c .top) + ofTexels y) (quarters (c .left) + ofTexels (x + s .«strip_width» - 1)) (quarters (c .top) + ofTexels (y + h - 1))
     (i16 (cond (c .flip) (negℤ (pos (s .«load_width»))) (pos (s .offset)) *ℤ pos 32)) (pos 0) (pos 0x1000) (pos 0x400) sy)
-    (omega (arith, k .left, k .top, k .width′, k .height′, k .image-height′, b .width, b .width′, r .height, r .height′, r .below), (signed-in (cond (c .flip) (negℤ (pos (s .«load_width»))) (pos (s .offset)) *ℤ pos 32), (omega zarith, (omega zarith, omega zarith)))))
+    (omega (arith, below-up 12 (c .left .0) (k .left), below-up 12 (c .top .0) (k .top), k .width′, k .height′, k .image-height′, b .width, b .width′, r .height, r .height′, r .below), (signed-in (cond (c .flip) (negℤ (pos (s .«load_width»))) (pos (s .offset)) *ℤ pos 32), (omega zarith, (omega zarith, omega zarith)))))
 
 few-strip : (c : Copy) (y sy h x : ℕ) → SoundCopy c → x < c .width → Rows c y sy h → Few Any 5 (strip c y sy h x (stripOf c x))
 unfolding strip
@@ -181,7 +187,7 @@ few-draw z w draw k a s =
     let d = drawn-lines (w .«frame_y») draw (w .«frame_remain») (ltZ (leftAfter w draw) (pos 0)) refl (s .lines) in
     few-bind _ _ (few-loads z (w .source) (rowsOf z w draw) k a (s .from)) (λ source h.
     few-more (rectOf z w (linesOf w draw) ∷ []) _
-    ((omega (arith, k .x, k .x-end, k .source-rows′, modulo-lt (pos (z .«source_rows») -ℤ w .source .remain) (k .source-rows)), (signed-in (z .s), (signed-in (pos (w .t)), (signed-in (pos (z .«scale_w»)), signed-in (pos (z .«scale_h»)))))), tt)
+    ((omega (arith, below-up 12 (z .x .0) (k .x), below-up 14 (z .«x_end» .0) (k .x-end), k .source-rows′, modulo-lt (pos (z .«source_rows») -ℤ w .source .remain) (k .source-rows)), (signed-in (z .s .0), (signed-in (w .t .0), (signed-in (pos (z .«scale_w» .0)), signed-in (pos (z .«scale_h» .0)))))), tt)
     (few-yield _ (record { lines = d; from = h })))
 
 few-idle : (z : Scaled) (w : Walk) → Stands w → Few Stands 0 (idlePass z w)
@@ -199,14 +205,14 @@ few-passes (suc n) z w k a s =
     few-wider (17 * suc n) _ (omega arith)
     (few-if (ltZ (pos 0) (w .«frame_remain»)) _ _ (λ _. few-bind _ _ (few-pass z w k a s) (λ next h. few-passes n z next k a h)) (λ _. few-yield _ tt))
 
-pub few-scaled : (z : Scaled) (c : Clip) (f : First) → SoundScaled z → z .address < 2 ^ 64 → c .y ≤ 4092 → c .height ≤ 4092 → Few Any 1130418 (scaledPlan z c f)
+pub few-scaled : (z : Scaled) (c : Clip) (f : First) → SoundScaled z → z .address < 2 ^ 64 → quarters (c .y) ≤ 4095 → quarters (c .height) ≤ 4095 → Few Any 1130418 (scaledPlan z c f)
 unfolding scaledPlan
 few-scaled z c f k a y h =
     few-wider 1130418 _ (omega arith)
     (few-bind _ _ (few-address _ _) (λ p l.
     few-more (tile7 z (pos 0) ∷ entry.Tile 0 (z .fmt) (z .siz) (z .line % 2 ^ 16) 0 (z .palette) 1 1 15 15 ∷ entry.Size 0 0 0 0 0 ∷ []) _
     (tile7-small z (pos 0) k, (omega (arith, k .fmt, k .siz, k .palette, k .line′), (omega arith, tt)))
-    (few-passes (65 * (c .height / 4)) z (firstPass z c f p) k a (record { lines = omega arith; from = l }))))
+    (few-passes (65 * texels (quarters (c .height))) z (firstPass z c f p) k a (record { lines = omega arith; from = l }))))
 
 -- ---- every plan
 
@@ -239,7 +245,7 @@ few-made bg q p a =
     few-if (slicesBad z) _ _ (λ _. few-stop _ verdict.Slices) (λ f.
     let filled = clip-filled bg (q .scissor) p e in
     let inside = start-in bg c (usable p) filled in
-    few-scaled z c (firstOf z i) (scaled-sound bg (q .mode) (q .address) c i (usable p) filled (inside .image-x) f) (rw (scaled-address bg (q .mode) (q .address) c i) a) (filled .y) (filled .height′)))
+    few-scaled z c (firstOf z i) (scaled-sound bg (q .mode) (q .address) c i (usable p) filled inside f) (rw (scaled-address bg (q .mode) (q .address) c i) a) (below-up 12 (c .y .0) (filled .y)) (below-up 12 (c .height .0) (filled .height′))))
 
 tmem-in : (bs : List ℕ) → Bytes bs → decode 4 true bs .«tmem_h» ≤ 65535
 unfolding decode valueOf layout

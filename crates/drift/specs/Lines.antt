@@ -204,17 +204,17 @@ plan-lines z i c r =
 
 -- ---- the request
 
--- what is claimed of an outcome: finished, and with entries, it has n lines
+-- what is claimed of an outcome: finished, it has n lines
 abbrev Adds : ℕ → Out (Unit {0}) → Type 0
-Adds n o = planOut o .verdict ≡ verdict.Finished → (planOut o .entries ≡ [] → ⊥) → linesIn (planOut o .entries) ≡ n
+Adds n o = planOut o .verdict ≡ verdict.Finished → linesIn (planOut o .entries) ≡ n
+
+-- a refusal has not finished
+adds-refused : (n : ℕ) (es l : List Entry) (v : Verdict) → Refuses v → Adds n (stop es l v)
+adds-refused n es l v r e = absurd (true≢false (sym (ap (λ (x : Verdict). eqb (verdictNumber x) 0) e) ∙ r))
 
 adds-drawn : (n : ℕ) (o : Out (Unit {0})) → Drawn n o → Adds n o
-adds-drawn n (go es u) h e some = h
-adds-drawn n (stop es l v) h e some = absurd (true≢false (sym (ap (λ (x : Verdict). eqb (verdictNumber x) 0) e) ∙ h .1))
-
-adds-if : (n : ℕ) (t : Bool) (a b : Out (Unit {0})) → (t ≡ true → Adds n a) → (t ≡ false → Adds n b) → Adds n (elim t [ true ↦ a | false ↦ b ])
-adds-if n true a b f g = f refl
-adds-if n false a b f g = g refl
+adds-drawn n (go es u) h = λ e. h
+adds-drawn n (stop es l v) h = adds-refused n es l v (h .1)
 
 -- no scale is above 65,535, so a strip has at least 16 1,024ths of a frame line
 pub frame-least : (bg : ObjBg) (mode address : ℕ) (c : Clip) (i : Start) → 1 ≤ bg .«scale_h» .0 → bg .«scale_h» .0 ≤ 65535 → slicesBad (scaledOf bg mode address c i) ≡ false → 16 ≤ scaledOf bg mode address c i .«frame_rows»
@@ -231,24 +231,35 @@ frame-least bg mode address c i low high e =
     by : (rows scale : ℕ) → 0 < rows → 0 < scale → scale ≤ 65535 → 16 ≤ rows * 1048576 / scale
     by rows scale r l h = le-div-iff-mul-le l .1 (omega arith)
 
-scaled-lines : (bg : ObjBg) (q : Request) → 1 ≤ bg .«scale_h» .0 → bg .«scale_h» .0 ≤ 65535 → Adds (texels (quarters (clipOf bg (q .scissor) .height))) (scaledOut bg q)
-unfolding scaledOut
-scaled-lines bg q low high =
-    let c = clipOf bg (q .scissor) in
-    let i = startOf bg c in
-    let z = scaledOf bg (q .mode) (q .address) c i in
-    let n = texels (quarters (c .height)) in
-    adds-if n (scaledEmpty c) (yield tt) (elim (slicesBad z) [ true ↦ refuse verdict.Slices | false ↦ scaledPlan z c (firstOf z i) ]) (λ _ _ some. absurd (some refl)) (λ _.
-    adds-if n (slicesBad z) (refuse verdict.Slices) (scaledPlan z c (firstOf z i)) (λ _ _ some. absurd (some refl)) (λ e.
-    adds-drawn n (scaledPlan z c (firstOf z i)) (plan-lines z i c (frame-least bg (q .mode) (q .address) c i low high e))))
+-- the lines of a clip, none where it is empty
+abbrev linesOf : Clip → ℕ
+linesOf c = texels (cond (scaledEmpty c) 0 (quarters (c .height)))
 
--- the frame's height after the scissor, in quarters
+scaled-lines : (bg : ObjBg) (q : Request) → 1 ≤ bg .«scale_h» .0 → bg .«scale_h» .0 ≤ 65535 → Adds (linesOf (clipOf bg (q .scissor))) (scaledOut bg q)
+unfolding scaledOut linesIn
+scaled-lines bg q low high = by (scaledEmpty c) (slicesBad z) refl
+  where
+    c : Clip
+    c = clipOf bg (q .scissor)
+
+    i : Start
+    i = startOf bg c
+
+    z : Scaled
+    z = scaledOf bg (q .mode) (q .address) c i
+
+    by : (t u : Bool) → slicesBad z ≡ u → Adds (texels (cond t 0 (quarters (c .height)))) (elim t [ true ↦ yield tt | false ↦ elim u [ true ↦ refuse verdict.Slices | false ↦ scaledPlan z c (firstOf z i) ] ])
+    by true u e = λ _. refl
+    by false true e = adds-refused _ [] [] verdict.Slices refl
+    by false false e = adds-drawn (texels (quarters (c .height))) (scaledPlan z c (firstOf z i)) (plan-lines z i c (frame-least bg (q .mode) (q .address) c i low high e))
+
+-- the frame's height after the scissor, in quarters; an empty frame has none, whichever side is empty
 abbrev pub clippedHeight : Request → ℕ
-clippedHeight q = quarters (clipOf (decode 4 false (q .bytes)) (q .scissor) .height)
+clippedHeight q = let c = clipOf (decode 4 false (q .bytes)) (q .scissor) in cond (scaledEmpty c) 0 (quarters (c .height))
 
--- D "The lines of a finished plan's rectangles add up to the clipped height divided by 4, rounded down"; a plan without entries is that of an empty frame
-pub lines-add-up : (q : Request) → q .opcode ≡ 9 → Bytes (q .bytes) → planOf q .verdict ≡ verdict.Finished → (planOf q .entries ≡ [] → ⊥) → linesIn (planOf q .entries) ≡ clippedHeight q / 4
+-- D "The lines of a finished plan's rectangles add up to the clipped height divided by 4, rounded down"
+pub lines-add-up : (q : Request) → q .opcode ≡ 9 → Bytes (q .bytes) → planOf q .verdict ≡ verdict.Finished → linesIn (planOf q .entries) ≡ clippedHeight q / 4
 unfolding planOf planWith checkedOut
 lines-add-up q o h =
-    checked-scaled (λ (r : Checked). Adds (clippedHeight q / 4) (checkedOut r q)) (λ v _ some. absurd (some refl)) (q .bytes) (q .opcode) (q .scissor) o
+    checked-scaled (λ (r : Checked). Adds (clippedHeight q / 4) (checkedOut r q)) (λ v r. adds-refused _ [] [] v r) (q .bytes) (q .opcode) (q .scissor) o
     (scaled-lines (decode 4 false (q .bytes)) q (decoded-scale (q .bytes)) (decode-range 4 false (q .bytes) h .scale-h))

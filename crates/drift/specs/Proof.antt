@@ -34,7 +34,7 @@ use Rattle.object.specs.Check.{any, objectFaults, opcodeBad, copies, short, sci
 use Rattle.plan.specs.Whole.{planOf, planWith, checkedOut, scaledOut}
 use Rattle.plan.specs.Laws.{entriesOut, more-nil, passes-on, passes-end}
 use Rattle.plan.specs.Demand.{Drift, driftOf, strips, stripsOf, Apt, Demand3}
-use Rattle.drift.specs.Plain.{AllBy, by-near, all-wider, plain-near, near-bind, entries-more, quiet-address, quiet-advance}
+use Rattle.drift.specs.Plain.{Refuses, AllBy, by-near, all-wider, plain-near, near-bind, entries-more, quiet-address, quiet-advance}
 use Rattle.drift.specs.Walk.{limit, Fixed, passes-near, idleNext, idle-is}
 use Rattle.drift.specs.First.{FirstIs, first-is, first-at, driftAt, sliceOf, aboveOf, countAt}
 
@@ -229,22 +229,22 @@ entries-is (stop es l v) = refl
 
 -- ---- the checks: a request of opcode 9 is refused, or goes on with its scaled object
 
-refused-or : (K : Checked → Type 0) → ((v : Verdict) → K (checked.Refused v)) → (t : Bool) (v : Verdict) (rest : Checked) → K rest → K (refusedBy t v rest)
-refused-or K r true v rest h = r v
-refused-or K r false v rest h = h
+refused-or : (K : Checked → Type 0) → ((v : Verdict) → Refuses v → K (checked.Refused v)) → (t : Bool) (v : Verdict) (rest : Checked) → Refuses v → K rest → K (refusedBy t v rest)
+refused-or K r true v rest n h = r v n
+refused-or K r false v rest n h = h
 
-object-scaled : (K : Checked → Type 0) → ((v : Verdict) → K (checked.Refused v)) → (bg : ObjBg) → K (checked.Scaled bg) → K (objectOf false bg)
+object-scaled : (K : Checked → Type 0) → ((v : Verdict) → Refuses v → K (checked.Refused v)) → (bg : ObjBg) → K (checked.Scaled bg) → K (objectOf false bg)
 unfolding objectOf
-object-scaled K r bg h = refused-or K r (any (objectFaults bg)) verdict.Object (checked.Scaled bg) h
+object-scaled K r bg h = refused-or K r (any (objectFaults bg)) verdict.Object (checked.Scaled bg) refl h
 
-pub checked-scaled : (K : Checked → Type 0) → ((v : Verdict) → K (checked.Refused v)) → (bs : List ℕ) (opcode : ℕ) (s : Scissor) → opcode ≡ 9 → K (checked.Scaled (decode 4 false bs)) → K (checkedOf 4 bs opcode s)
+pub checked-scaled : (K : Checked → Type 0) → ((v : Verdict) → Refuses v → K (checked.Refused v)) → (bs : List ℕ) (opcode : ℕ) (s : Scissor) → opcode ≡ 9 → K (checked.Scaled (decode 4 false bs)) → K (checkedOf 4 bs opcode s)
 unfolding checkedOf
 checked-scaled K r bs opcode s e h =
     let last = objectOf (copies opcode) (decode 4 (copies opcode) bs) in
     let third = refusedBy (scissorBad s) verdict.Scissor last in
     let second = refusedBy (short 4 opcode bs) verdict.Short third in
     let scaled : copies opcode ≡ false = ap (λ (n : ℕ). eqb n 10) e in
-    refused-or K r (opcodeBad opcode) verdict.Opcode second (refused-or K r (short 4 opcode bs) verdict.Short third (refused-or K r (scissorBad s) verdict.Scissor last
+    refused-or K r (opcodeBad opcode) verdict.Opcode second refl (refused-or K r (short 4 opcode bs) verdict.Short third refl (refused-or K r (scissorBad s) verdict.Scissor last refl
     (subst (λ (t : Bool). K (objectOf t (decode 4 t bs))) (sym scaled) (object-scaled K r (decode 4 false bs) h))))
 
 -- D "A stored scale of 0 is 1"
@@ -256,7 +256,7 @@ decoded-scale bs = omega arith
 pub request-near : (q : Request) (d : Drift) (ks : List ℤ) → q .opcode ≡ 9 → AllBy (limit d) d 0 ks (entriesOut (scaledOut (decode 4 false (q .bytes)) q))
     → AllBy (limit d) d 0 ks (entriesOut (checkedOut (checkedOf 4 (q .bytes) (q .opcode) (q .scissor)) q))
 unfolding checkedOut
-request-near q d ks e h = checked-scaled (λ (r : Checked). AllBy (limit d) d 0 ks (entriesOut (checkedOut r q))) (λ v. tt) (q .bytes) (q .opcode) (q .scissor) e h
+request-near q d ks e h = checked-scaled (λ (r : Checked). AllBy (limit d) d 0 ks (entriesOut (checkedOut r q))) (λ v _. tt) (q .bytes) (q .opcode) (q .scissor) e h
 
 -- every scaled request whose image has whole rows and whose start is at or below the origin
 pub all-near : (q : Request) → q .opcode ≡ 9 → driftOf q .image-h % 4 ≡ 0 → driftOf q .origin ≤ℤ pos (driftOf q .start) → AllBy (limit (driftOf q)) (driftOf q) 0 (stripsOf (driftOf q)) (planOf q .entries)

@@ -141,7 +141,7 @@ short-scaled bg q =
 
 short-request : (q : Request) → q .opcode ≡ 9 → Short (entriesOut (checkedOut (checkedOf 4 (q .bytes) (q .opcode) (q .scissor)) q))
 unfolding checkedOut
-short-request q e = checked-scaled (λ (r : Checked). Short (entriesOut (checkedOut r q))) (λ v. tt) (q .bytes) (q .opcode) (q .scissor) e (short-scaled (decode 4 false (q .bytes)) q)
+short-request q e = checked-scaled (λ (r : Checked). Short (entriesOut (checkedOut r q))) (λ v _. tt) (q .bytes) (q .opcode) (q .scissor) e (short-scaled (decode 4 false (q .bytes)) q)
 
 plan-of : (o : Out (Unit {0})) → Short (entriesOut o) → Short (planOut o .entries)
 plan-of (go es u) h = h

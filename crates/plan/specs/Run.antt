@@ -53,7 +53,7 @@ wordsFrom l (entry.Size i uls ult lrs lrt ∷ es) = wordsFrom l es
 wordsFrom l (entry.Load i uls ult lrs lrt words rows stride start len ∷ es) = max (rows * l) (wordsFrom l es)
 wordsFrom l (entry.Rect i ulx uly lrx lry uls ult dsdx dtdy row ∷ es) = wordsFrom l es
 
--- every plan sets tile 7 before it loads
+-- from 0, though the bank may hold another line: every load of a plan stands after a setting of tile 7 (`tile-words` in crates/demands)
 abbrev pub tileWords : List Entry → ℕ
 tileWords es = wordsFrom 0 es
 
