@@ -115,6 +115,12 @@ pub fn print_lines(drift: &Drift, out: &mut String) {
     }
 }
 
+/// No sentence of document 01; some plans break it.
+const UNSAID: &str = "(no sentence of 01) scaled: a strip's only load starts inside the image";
+const DRIFT: &str = "drift:";
+const DRIFT_CLAIMED: &str =
+    "drift: whole image rows yes, whole origin yes, at or below origin yes";
+
 /// A claim's count of plans tested and of plans that break it, with the first of these.
 #[derive(Default)]
 struct Tally {
@@ -232,7 +238,7 @@ impl Claims {
                     .all(|r| r.rem_euclid(image) <= i128::from(slices.stride)),
         );
         self.note(
-            "(no sentence of 01) scaled: a strip's only load starts inside the image",
+            UNSAID,
             number,
             record,
             rows.iter().all(|&r| r >= 0),
@@ -251,6 +257,16 @@ impl Claims {
             let (a, b) = tally.margins.unwrap_or((behind, ahead));
             tally.margins = Some((a.min(behind), b.min(ahead)));
         }
+    }
+
+    /// Whether everything that document 01 claims holds: of the drift, where its conditions are met.
+    pub fn hold(&self) -> bool {
+        let claimed = |name: &str| {
+            name != UNSAID && (!name.starts_with(DRIFT) || name.starts_with(DRIFT_CLAIMED))
+        };
+        self.tallies
+            .iter()
+            .all(|t| t.broken == 0 || !claimed(&t.name))
     }
 
     pub fn print(&mut self, out: &mut String) {

@@ -189,7 +189,16 @@ fn perform(asked: Asked, out: &mut Output) {
                 }
             }
         }
-        Task::Claims(file) => out.put(&claims_text(&file, &settings)),
+        Task::Claims(file) => {
+            let mut claims = claims_on(&file, &settings);
+            let mut text = String::new();
+            claims.print(&mut text);
+            out.put(&text);
+            if !claims.hold() {
+                out.flush();
+                fail(&file, "a sentence of document 01 is broken");
+            }
+        }
         Task::Lines => {
             let record = read_single().unwrap_or_else(|| usage());
             let answer = run(&record, &settings, Sink::Keep);
@@ -349,16 +358,14 @@ fn digest_text(record: &Record, settings: &Settings) -> String {
     )
 }
 
-fn claims_text(file: &str, settings: &Settings) -> String {
+fn claims_on(file: &str, settings: &Settings) -> claims::Claims {
     let mut claims = claims::Claims::default();
     for (n, record) in read_records(file).enumerate() {
         if let Some(answer) = caught(&record, settings, Sink::Keep) {
             claims.check(n, &record, settings, &answer);
         }
     }
-    let mut text = String::new();
-    claims.print(&mut text);
-    text
+    claims
 }
 
 /// The bank of seed 1 and, for each case, the record, the plan from a zero bank, and the bank that

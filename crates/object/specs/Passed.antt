@@ -1,12 +1,11 @@
 -- The laws of the checks, for callers: what is known of a decoded object, and of a request that passed.
 -- Assumes nothing.
 use mathlib.Core.Path.{_≡_, refl, sym, subst}
-use mathlib.Core.Bool.{Bool, true, false, cond, _||_, true≢false}
+use mathlib.Core.Bool.{Bool, true, false, cond}
 use mathlib.Core.List.{List, [], _∷_}
 use Prim.Native.Nat.{ℕ, _+_, _≤_, _<_, max}
 use native.Mathlib.Omega.{arith}
-use borrow.Author.Tests.{ltb-false, eqb-false}
-use lib.Dec.{eqb}
+use borrow.Author.Tests.{ltb-false}
 use lib.IntN.{ℤ, pos}
 use lib.Signed.{ltZ}
 use mir.Syntax.{w16, w32}

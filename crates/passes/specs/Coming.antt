@@ -1,21 +1,19 @@
 -- What a scaled plan has still to come, at each place of a pass: the rest of `load_1cyc`, the rectangle, and the passes after it.
 -- Assumes nothing.
-use mathlib.Core.Path.{_≡_}
 use mathlib.Core.Bool.{true}
-use mathlib.Core.List.{List, [], _∷_}
+use mathlib.Core.List.{[]}
 use Prim.Native.Nat.{ℕ, _+_, _*_, _%_, _^_}
-use lib.IntN.{ℤ, pos, negℤ, _+ℤ_, _-ℤ_, _*ℤ_}
+use lib.IntN.{ℤ, pos, _+ℤ_, _-ℤ_, _*ℤ_}
 use Rattle.signed.specs.Diff.{up}
 use Rattle.signed.specs.Floor.{floorDiv, modulo}
-use Rattle.object.specs.declared.types.Verdict.{Verdict}
 use Rattle.object.specs.declared.types.Verdict.the-variants as verdict
 use Rattle.plan.specs.declared.types.Entry.{Entry}
 use Rattle.plan.specs.declared.types.Entry.the-variants.{Image, Tile, Size}
 use Rattle.plan.specs.declared.types.Scaled.{Scaled}
 use Rattle.plan.specs.declared.types.Source.{Source}
 use Rattle.plan.specs.declared.types.Walk.{Walk}
-use Rattle.plan.specs.Out.{Out, Plan, more, _>>=_, _>>_, yield, emit, refuse, planOut}
-use Rattle.plan.specs.Load.{loadTile, sourceAddress}
+use Rattle.plan.specs.Out.{Out, Plan, _>>=_, _>>_, yield, emit, refuse, planOut}
+use Rattle.plan.specs.Load.{sourceAddress}
 use Rattle.plan.specs.Next.{ended}
 use Rattle.plan.specs.Scaled.{sizeOf, fieldOf, tile7, loadPart, loadRows, load1cycTile, fromTop, splitRow, upToEnd, advance, load1cyc, drawOf, rectOf, afterDraw, passes}
 use Rattle.passes.specs.declared.types.Sum.{Sum}

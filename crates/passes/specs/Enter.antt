@@ -1,8 +1,8 @@
 -- The parts of a load as places that are reached: what each has to come, its ranges, and how many entries at the most.
 -- Assumes nothing.
 use mathlib.Core.Path.{_≡_, refl, sym, ap, _∙_}
-use mathlib.Core.Bool.{Bool, true, false}
-use mathlib.Core.List.{List, [], _∷_}
+use mathlib.Core.Bool.{true, false}
+use mathlib.Core.List.{[]}
 use Prim.Native.Nat.{ℕ, _+_, _-_, _*_, _≤_}
 use native.Mathlib.Omega.{arith}
 use lib.Dec.{eqb}
@@ -13,12 +13,11 @@ use lib.Signed.{ltZ, leZ}
 use Rattle.object.specs.declared.types.Verdict.{Verdict}
 use Rattle.object.specs.declared.types.Verdict.the-variants as verdict
 use Rattle.object.specs.Range.{Within}
-use Rattle.plan.specs.declared.types.Scaled.{Scaled}
 use Rattle.plan.specs.declared.types.Source.{Source}
-use Rattle.plan.specs.Out.{Out, Plan, _>>=_, _>>_, yield, refuse, emit, planOut}
+use Rattle.plan.specs.Out.{Out, Plan, _>>_, yield, refuse, emit, planOut}
 use Rattle.plan.specs.Laws.{more-nil}
 use Rattle.plan.specs.Load.{sourceAddress}
-use Rattle.plan.specs.Scaled.{tile7, loadPart, load1cycTile, back, fromTop, splitRow, upToEnd, advance}
+use Rattle.plan.specs.Scaled.{tile7, loadPart, load1cycTile, back, fromTop, splitRow, advance}
 use Rattle.passes.specs.declared.types.Part.{Part}
 use Rattle.passes.specs.declared.types.Piece.{Piece}
 use Rattle.passes.specs.declared.types.Piece.the-variants as piece
@@ -31,7 +30,7 @@ use Rattle.passes.specs.declared.types.Reached.the-variants as reached
 use Rattle.passes.specs.Coming.{loadableOf, splitRows, splitFrom, splitWidth, partsFrom, topThen, restOut, wholeOut, pieceOut, drawn, passFrom, partThen, wholePart, afterPart, afterWhole, comingScaled}
 use Rattle.passes.specs.Loads.{then-assoc, partBad, part-refused, part-given, part-whole, split-on, split-off, rest-on, rest-off, top-on, top-off, load-whole, load-wraps}
 use Rattle.passes.specs.Kept.{Left, advance-left, stay-left, draw-kept}
-use Rattle.passes.specs.Sound.{SoundPass, SoundPart, SoundPiece, SoundRect, Reaches, before, Meets, Chose, leftPass, afterPiece}
+use Rattle.passes.specs.Sound.{SoundPass, SoundRect, Reaches, before, Meets, Chose, leftPass, afterPiece}
 
 -- the place with another part, and with another next source
 abbrev pub withPart : Place → Piece → Part → Place

@@ -1,19 +1,15 @@
 -- Each pass keeps the walk's ranges.
 -- Assumes nothing.
 use mathlib.Core.Path.{_≡_, refl, sym, ap, _∙_}
-use mathlib.Core.Bool.{Bool, true, false, cond, false≢true}
-use mathlib.Core.Logic.{_⊎_, ⊎-elim}
-use mathlib.Core.List.{List, [], _∷_}
-use Prim.Native.Nat.{ℕ, suc, _+_, _-_, _*_, _/_, _%_, _^_, _≤_, _<_, max}
+use mathlib.Core.Bool.{Bool, true, false, false≢true}
+use Prim.Native.Nat.{ℕ, _+_, _-_, _*_, _/_, _^_, _≤_, max}
 use native.Mathlib.Omega.{arith}
-use native.Mathlib.Nat.{mul-le-mul}
-use lib.Dec.{eqb, lit<}
+use lib.Dec.{eqb}
 use lib.IntN.{ℤ, pos, negsuc, negℤ, _+ℤ_, _-ℤ_, _*ℤ_}
-use lib.Signed.{ltZ, leZ, _≤ℤ_}
+use lib.Signed.{ltZ, _≤ℤ_}
 use borrow.Author.Tests.{eqb-true, le-ltb}
 use Rattle.signed.specs.Diff.{up, dn, zdiff, zparts, zarith}
-use Rattle.signed.specs.Floor.{floorDiv, modulo, parts}
-use Rattle.signed.specs.Cast.{minZ}
+use Rattle.signed.specs.Floor.{floorDiv, modulo}
 use Rattle.plan.specs.declared.types.Scaled.{Scaled}
 use Rattle.plan.specs.declared.types.Source.{Source}
 use Rattle.plan.specs.declared.types.Walk.{Walk}
@@ -21,12 +17,12 @@ use Rattle.plan.specs.Out.{Out, _>>=_, yield}
 use Rattle.plan.specs.Out.Out.{go, stop}
 use Rattle.plan.specs.Load.{sourceAddress}
 use Rattle.plan.specs.Sound.{SoundScaled}
-use Rattle.plan.specs.Scaled.{drawOf, leftAfter, linesOf, rowsOf, nextPass, afterDraw, advance}
+use Rattle.plan.specs.Scaled.{drawOf, leftAfter, linesOf, nextPass, afterDraw, advance}
 use Rattle.passes.specs.declared.types.Place.{Place}
 use Rattle.object.specs.Range.{Within}
 use Rattle.passes.specs.Comes.{within}
 use Rattle.passes.specs.Loads.{advance-on, advance-wrap}
-use Rattle.passes.specs.Sound.{SoundWalk, SoundPass, SoundRect}
+use Rattle.passes.specs.Sound.{SoundWalk, SoundPass}
 
 -- what a move does to the rows left: d of them, or, where none is left, the image's rows more
 pub record Left (d : ℤ) (n : ℕ) (r : ℤ) : Type 0 where

@@ -1,30 +1,29 @@
 -- The branches of a load's definitions, each with the test that leads there.
 -- Assumes nothing.
 use mathlib.Core.Path.{_≡_, refl, sym, ap, _∙_}
-use mathlib.Core.Bool.{Bool, true, false, cond, _||_, false≢true}
-use mathlib.Core.List.{List, [], _∷_, _++_}
-use Prim.Native.Nat.{ℕ, _+_, _*_, _≤_}
+use mathlib.Core.Bool.{Bool, true, false, _||_, false≢true}
+use mathlib.Core.List.{_∷_}
+use Prim.Native.Nat.{ℕ, _+_, _*_}
 use lib.Dec.{eqb}
 use lib.IntN.{ℤ, pos, negsuc, negℤ, _+ℤ_, _-ℤ_, _*ℤ_}
 use lib.Signed.{leZ, ltZ}
 use borrow.Author.Tests.{le-ltb, lt-ltb, leb-true, leb-false}
-use Rattle.signed.specs.Floor.{floorDiv, modulo}
+use Rattle.signed.specs.Floor.{modulo}
 use Rattle.object.specs.declared.types.Verdict.{Verdict}
 use Rattle.object.specs.declared.types.Verdict.the-variants as verdict
 use Rattle.plan.specs.declared.types.Entry.{Entry}
 use Rattle.plan.specs.declared.types.Scaled.{Scaled}
 use Rattle.plan.specs.declared.types.Source.{Source}
-use Rattle.plan.specs.declared.types.Walk.{Walk}
-use Rattle.plan.specs.Out.{Out, Plan, more, _>>=_, _>>_, yield, emit, refuse, planOut}
+use Rattle.plan.specs.Out.{Out, more, _>>=_, _>>_, yield, emit, refuse, planOut}
 use Rattle.plan.specs.Out.Out.{go, stop}
 use Rattle.plan.specs.Load.{sourceAddress}
-use Rattle.plan.specs.Next.{cons, ended}
+use Rattle.plan.specs.Next.{cons}
 use Rattle.plan.specs.Laws.{bind-assoc, more-nil}
 use Rattle.plan.specs.Ties.{wrapped-by}
 use Rattle.plan.specs.Scaled.{tile7, loadPart, load1cycTile, back, fromTop, splitRow, upToEnd, advance, load1cyc}
 use Rattle.passes.specs.Comes.{times-comm}
 use Rattle.passes.specs.declared.types.Sum.{Sum}
-use Rattle.passes.specs.Coming.{sumOut, loadableOf, splitRows, splitFrom, splitWidth, restOut, wholeOut, pieceOut, drawn, passOut}
+use Rattle.passes.specs.Coming.{sumOut, loadableOf, splitRows, splitFrom, splitWidth, restOut, wholeOut}
 use Rattle.passes.specs.declared.types.Piece.the-variants as piece
 
 -- an entry in front, and a refusal

@@ -1,24 +1,21 @@
 -- One round of the passes: each pass is followed by the passes of the walk after it, with fuel for every line left.
 -- Assumes nothing.
 use mathlib.Core.Path.{_≡_, refl, sym, ap, _∙_}
-use mathlib.Core.Bool.{Bool, true, false}
-use mathlib.Core.List.{List, [], _∷_, _++_, append-nil}
-use Prim.Native.Nat.{ℕ, zero, suc, _+_, _-_, _*_, _/_, _%_, _≤_, _<_}
+use mathlib.Core.Bool.{true, false}
+use Prim.Native.Nat.{ℕ, zero, suc, _+_, _-_, _*_, _/_, _≤_}
 use native.Mathlib.Omega.{arith}
-use borrow.Author.Tests.{eqb-true, eqb-false, ltb-true, ltb-false, lt-ltb}
-use lib.Dec.{eqb, ltb}
+use borrow.Author.Tests.{eqb-true, eqb-false, lt-ltb}
+use lib.Dec.{eqb}
 use lib.IntN.{ℤ, pos, negsuc, _+ℤ_, _-ℤ_}
-use lib.Signed.{ltZ, _≤ℤ_}
+use lib.Signed.{ltZ}
 use Rattle.signed.specs.Diff.{up}
 use Rattle.signed.specs.Floor.{floorDiv, modulo}
-use Rattle.plan.specs.declared.types.Entry.{Entry}
 use Rattle.plan.specs.declared.types.Scaled.{Scaled}
 use Rattle.plan.specs.declared.types.Source.{Source}
 use Rattle.plan.specs.declared.types.Walk.{Walk}
-use Rattle.plan.specs.Out.{Out, more, _>>=_, _>>_, yield, emit}
-use Rattle.plan.specs.Out.Out.{go, stop}
+use Rattle.plan.specs.Out.{Out, _>>=_, _>>_, yield, emit}
 use Rattle.plan.specs.Ties.{rows-left}
-use Rattle.plan.specs.Scaled.{drawOf, nextPass, advance, load1cyc, idlePass, drawPass, pass, passes, rowsOf, linesOf, leftAfter, rectOf, afterDraw}
+use Rattle.plan.specs.Scaled.{drawOf, nextPass, advance, load1cyc, idlePass, drawPass, pass, passes, rowsOf, linesOf, rectOf, afterDraw}
 use Rattle.plan.specs.Laws.{passes-on, passes-end, passes-fuel, pass-same, bind-assoc, more-nil}
 use Rattle.passes.specs.Coming.{passesOf}
 

@@ -1,7 +1,7 @@
 // The parts of a pass's load, in their order: `load_1cyc` and `load_1cyc_tile`.
 ghost use mathlib.Core.Path.{_≡_};
 ghost use mathlib.Core.Bool.{true};
-ghost use Prim.Native.Nat.{_+_, _-_, _*_, _≤_};
+ghost use Prim.Native.Nat.{_+_, _-_};
 ghost use lib.IntN.{pos, _-ℤ_};
 ghost use lib.Signed.{ltZ};
 ghost use Rattle.object.specs.Range.{Within};

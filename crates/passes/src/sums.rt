@@ -1,8 +1,6 @@
 // Address sums, and where the rows after a pass come from.
 ghost use mathlib.Core.Path.{_≡_};
-ghost use Prim.Native.Nat.{_≤_, _^_};
-ghost use lib.IntN.{pos, negℤ};
-ghost use lib.Signed.{_≤ℤ_};
+ghost use lib.IntN.{pos};
 ghost use Rattle.object.specs.Range.{Within};
 ghost use Rattle.plan.specs.Sound.{SoundScaled};
 ghost use Rattle.plan.specs.Load.{sourceAddress};

@@ -1,6 +1,6 @@
 -- Folds over a plan's entries: the bank, the counts, the words; and a whole run into a buffer.
 -- Assumes nothing.
-use mathlib.Core.Bool.{Bool, true, false, cond}
+use mathlib.Core.Bool.{cond}
 use mathlib.Core.List.{List, [], _∷_, _++_}
 use Prim.Native.Nat.{ℕ, _+_, _*_, _/_, max}
 use lib.Dec.{ltb, eqb}
@@ -13,7 +13,7 @@ use Rattle.plan.specs.declared.types.Entry.the-variants as entry
 use Rattle.plan.specs.declared.types.End.{End}
 use Rattle.object.specs.declared.types.Verdict.the-variants.{Full}
 use Rattle.tile.specs.declared.bank.Bank.{Bank}
-use Rattle.tile.specs.Bank.{blank, setTile, setSize}
+use Rattle.tile.specs.Bank.{setTile, setSize}
 
 -- the tile that an entry names; D "unnamed parts become 0"
 abbrev pub descriptor : (fmt siz line tmem palette cms cmt masks maskt : ℕ) → Tile

@@ -2,14 +2,14 @@
 -- Assumes nothing.
 use mathlib.Core.Path.{_≡_, refl, sym, ap, _∙_}
 use mathlib.Core.Bool.{Bool, true, false, cond}
-use Prim.Native.Nat.{ℕ, zero, suc, _+_, _-_, _*_, _/_, _≤_, _<_, max}
+use Prim.Native.Nat.{ℕ, zero, suc, _+_, _-_, _/_, _≤_, _<_, max}
 use native.Mathlib.Omega.{arith}
-use lib.Dec.{leb, eqb, lit<, lit≤}
-use lib.IntN.{ℤ, pos, negsuc, negℤ, natAbs, _+ℤ_, _-ℤ_, _*ℤ_}
-use lib.Signed.{leZ, ltZ, _≤ℤ_, _<ℤ_, quotZ}
+use lib.Dec.{leb, eqb, lit<}
+use lib.IntN.{ℤ, pos, negsuc, negℤ, _+ℤ_, _-ℤ_}
+use lib.Signed.{leZ, _≤ℤ_, _<ℤ_, quotZ}
 use borrow.Author.Tests.{lt-leb, ne-eqb, leb-true, leb-false}
-use Rattle.signed.specs.Diff.{up, dn, neg-is, zdiff, zparts, zarith}
-use Rattle.signed.specs.Floor.{floorDiv, modulo, quot-below, quot-above}
+use Rattle.signed.specs.Diff.{up, neg-is, zdiff, zparts, zarith}
+use Rattle.signed.specs.Floor.{floorDiv, quot-below, quot-above}
 use Rattle.signed.specs.Mask.{quot-exact}
 use Rattle.signed.specs.Cast.{clearLow}
 

@@ -1,19 +1,16 @@
 -- Where a plan starts: each refusal, an empty frame, and the first place of each mode.
 -- Assumes nothing.
 use mathlib.Core.Path.{_≡_, refl, sym, ap, _∙_}
-use mathlib.Core.Bool.{Bool, true, false}
-use mathlib.Core.List.{List, [], _∷_}
-use Prim.Native.Nat.{ℕ, _+_, _^_, _≤_}
+use mathlib.Core.Bool.{true, false}
+use mathlib.Core.List.{List, []}
+use Prim.Native.Nat.{ℕ}
 use native.Mathlib.Omega.{arith}
 use Rattle.object.specs.declared.types.ObjBg.{ObjBg}
 use Rattle.object.specs.declared.types.Scissor.{Scissor}
 use Rattle.object.specs.declared.types.Verdict.{Verdict}
 use Rattle.object.specs.declared.types.Verdict.the-variants as verdict
-use Rattle.object.specs.declared.types.Checked.{Checked}
 use Rattle.object.specs.declared.types.Checked.the-variants as checked
 use Rattle.object.specs.Check.{checkedOf}
-use Rattle.plan.specs.declared.types.Clip.{Clip}
-use Rattle.plan.specs.declared.types.Start.{Start}
 use Rattle.plan.specs.declared.types.Scaled.{Scaled}
 use Rattle.plan.specs.declared.types.End.{End}
 use Rattle.plan.specs.Request.{Request}
@@ -24,7 +21,7 @@ use Rattle.plan.specs.Scaled.{clipOf, scaledEmpty, startOf, scaledOf, slicesBad
 use Rattle.plan.specs.Whole.{copyOut, scaledOut, checkedOut, planWith, planOf}
 use Rattle.plan.specs.Sound.{SoundCopy}
 use Rattle.plan.specs.Run.{endOf}
-use Rattle.plan.specs.Steps.{Coming, comingOf}
+use Rattle.plan.specs.Steps.{Coming}
 use Rattle.copy.specs.declared.types.Place.{Place}
 use Rattle.copy.specs.declared.types.Stage.{Stage}
 use Rattle.copy.specs.declared.types.Stage.the-variants as stage
@@ -40,7 +37,7 @@ use Rattle.words.specs.Counts.{zeroCounts, zero-countable, countedAll, endWith,
 use Rattle.planner.specs.declared.types.Course.{Course}
 use Rattle.planner.specs.declared.types.Course.the-variants as course
 use Rattle.planner.specs.declared.types.Planner.{Planner}
-use Rattle.planner.specs.Coming.{comingCourse, comingFrom, coming, Sound, Starts, StartsCopy, StartsScaled, Fresh, courseOf, requestOf}
+use Rattle.planner.specs.Coming.{comingCourse, comingFrom, coming, Starts, StartsCopy, StartsScaled, Fresh, courseOf, requestOf}
 
 over-starts : (plan : Plan) (v : Verdict) → ended [] v ≡ plan → Starts plan (course.Over v)
 over-starts plan v e = record { is = e; first = tt; sound = tt; left = omega arith }

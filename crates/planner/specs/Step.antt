@@ -1,11 +1,9 @@
 -- From one step of a course to one step of the planner: the counts and the bank go with the entry.
 -- Assumes nothing.
 use mathlib.Core.Path.{_≡_, refl, sym, ap, _∙_}
-use mathlib.Core.Bool.{Bool, true, false}
 use mathlib.Core.List.{List, [], _∷_}
-use Prim.Native.Nat.{ℕ, suc, _+_, _^_, _≤_, _<_}
+use Prim.Native.Nat.{ℕ, suc, _≤_, _<_}
 use native.Mathlib.Omega.{arith}
-use lib.Dec.{ltb}
 use lib.ListN.{length, drop}
 use Rattle.object.specs.declared.types.Verdict.{Verdict}
 use Rattle.object.specs.declared.types.Verdict.the-variants as verdict
@@ -15,20 +13,18 @@ use Rattle.plan.specs.declared.types.Entry.the-variants as entry
 use Rattle.plan.specs.declared.types.Answer.the-variants as answer
 use Rattle.plan.specs.declared.types.End.{End}
 use Rattle.plan.specs.Out.{Plan}
-use Rattle.plan.specs.Next.{Next, cons, ended, Follows}
-use Rattle.plan.specs.Next.Next.{give, over}
+use Rattle.plan.specs.Next.{cons, ended}
 use Rattle.plan.specs.Sound.{EntryIn, Narrow}
 use Rattle.plan.specs.Run.{bankStep, bankAfter}
 use Rattle.plan.specs.Steps.{Coming, nextOf, answerOf, bankNext}
 use Rattle.copy.specs.declared.types.Stage.{Stage}
 use Rattle.copy.specs.declared.types.Place.{Place}
-use Rattle.copy.specs.declared.types.CopyNext.{CopyNext}
 use Rattle.copy.specs.declared.types.CopyNext.the-variants as copied
 use Rattle.copy.specs.Walk as walk
-use Rattle.copy.specs.Walk.{CopyWalk, asNext, copyNextOf}
+use Rattle.copy.specs.Walk.{copyNextOf}
 use Rattle.copy.specs.Small.{next-in}
-use Rattle.copy.specs.Coming.{comingCopy, comingWalk, copy-follows}
-use Rattle.copy.specs.Kept.{leftCopy, Kept, copy-kept}
+use Rattle.copy.specs.Coming.{comingCopy, copy-follows}
+use Rattle.copy.specs.Kept.{leftCopy, copy-kept}
 use Rattle.passes.specs.declared.types.Stage as scaled
 use Rattle.passes.specs.declared.types.Place as scaled-place
 use Rattle.passes.specs.declared.types.Reached.{Reached}
@@ -37,7 +33,7 @@ use Rattle.passes.specs.declared.types.ScaledNext.the-variants as gave
 use Rattle.passes.specs.Coming.{comingScaled, comingReached}
 use Rattle.passes.specs.Sound.{soundReached, leftAt, leftReached, Gave}
 use Rattle.words.specs.declared.count.Counts.{Counts}
-use Rattle.words.specs.Counts.{Countable, countedOf, countedAll, endWith, counted-countable, counted-entries}
+use Rattle.words.specs.Counts.{countedOf, countedAll, endWith, counted-countable, counted-entries}
 use Rattle.planner.specs.declared.types.Course.{Course}
 use Rattle.planner.specs.declared.types.Course.the-variants as course
 use Rattle.planner.specs.declared.types.Planner.{Planner}

@@ -1,6 +1,6 @@
 // A whole run: the entries of the steps, written into the caller's words; or its end alone.
 ghost use mathlib.Core.Path.{_≡_};
-ghost use mathlib.Core.Bool.{Bool, true, false, cond};
+ghost use mathlib.Core.Bool.{true, false, cond};
 ghost use Prim.Native.Nat.{_≤_};
 ghost use lib.ListN.{length};
 ghost use Rattle.plan.specs.Whole.{planOf};

@@ -1,5 +1,4 @@
 // The planner of a request: the checks, the set-up of its mode, and where its plan starts.
-ghost use mathlib.Core.Path.{_≡_};
 ghost use Rattle.object.specs.Range.{PassedCopy, PassedScaled};
 ghost use Rattle.planner.specs.Coming.{Fresh, StartsCopy, StartsScaled};
 use crate::types::Course;

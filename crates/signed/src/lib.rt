@@ -75,12 +75,6 @@ pub fn low5(x: u64) -> u64
     x & 0x1f
 }
 
-pub fn low10(x: u64) -> u64
-    ensures { λ r. ⌜ r ≡ x % 2 ^ 10 ⌝ }
-{
-    x & 0x3ff
-}
-
 pub fn signed_low10(x: i64) -> u64
     ensures { λ r. ⌜ r ≡ modulo x (2 ^ 10) ⌝ }
 {

@@ -1,6 +1,6 @@
 -- Where the entries stand that last set a tile, and the bank that they leave. D is document 01, 'Tiles and the bank'.
 -- Assumes nothing.
-use mathlib.Core.Bool.{Bool, true, false, cond}
+use mathlib.Core.Bool.{cond}
 use mathlib.Core.List.{List}
 use Prim.Native.Nat.{ℕ, _+_, _≤_, _<_}
 use lib.Dec.{eqb}

@@ -1,13 +1,11 @@
 -- `passes::load::back` meets its contract: no step back, or the sum of one row less. Assumes nothing.
 use borrow.Author.Needs.{needs}
-use mathlib.Core.Path.{_≡_, refl, sym, ap, _∙_}
-use lib.Dec.{lit≤, lit<}
-use lib.IntN.{ℤ, pos, negℤ, _+ℤ_, _-ℤ_, _*ℤ_}
+use mathlib.Core.Path.{_≡_, sym, _∙_}
+use lib.IntN.{pos, negℤ, _-ℤ_}
 use mir.Syntax.{w64}
 use mir.Val.{toZ, ofZ}
-use Rattle.signed.specs.Diff.{up, dn, zdiff, zparts, zarith}
-use Rattle.signed.specs.Word.{rd, rdn, rk}
-use native.Mathlib.Omega.{arith}
+use Rattle.signed.specs.Diff.{zdiff, zparts, zarith}
+use Rattle.signed.specs.Word.{rd, rdn}
 use Rattle.passes.specs.Comes.{within}
 use Rattle.passes.specs.Loads.{back-none, back-one}
 use borrow.Author.Tests.{eq-eqb, ne-eqb}

@@ -5,7 +5,7 @@ use Rattle.passes.specs.Comes.{read-in}
 use Rattle.passes.specs.Kept.{rows-in}
 use Rattle.passes.specs.Enter.{enter-refused, enter-given}
 use Rattle.signed.specs.Word.{rd}
-use mathlib.Core.Path.{_≡_, refl, sym, ap, _∙_}
+use mathlib.Core.Path.{sym, _∙_}
 use Rattle.passes.proofs.load.enter.Statement.{statement}
 use Rattle.passes.proofs.load.enter.Tie as tie
 

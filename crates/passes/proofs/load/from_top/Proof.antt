@@ -1,13 +1,13 @@
 -- `passes::load::from_top` meets its contract: the two sums as the definition has them, and the part. Assumes nothing.
 use borrow.Author.Needs.{needs}
-use mathlib.Core.Path.{_≡_, refl, sym, ap, _∙_}
+use mathlib.Core.Path.{_≡_, refl, _∙_}
 use lib.Dec.{lit≤, lit<}
-use lib.IntN.{ℤ, pos, negℤ, _+ℤ_, _-ℤ_, _*ℤ_}
+use lib.IntN.{ℤ, pos, _+ℤ_, _-ℤ_, _*ℤ_}
 use mir.Syntax.{w64}
 use mir.Val.{toZ, ofZ}
 use Rattle.signed.specs.Word.{rd, rdn, rk}
 use native.Mathlib.Omega.{arith}
-use Rattle.signed.specs.Diff.{up, dn, zdiff, zparts, zarith}
+use Rattle.signed.specs.Diff.{zarith}
 use Rattle.object.specs.Range.{Within}
 use Rattle.signed.specs.Floor.{modulo, modulo-lt}
 use Prim.Native.Nat.{_<_}

@@ -1,8 +1,6 @@
 -- `passes::load::moved` meets its contract: the move is the definition's, and the law has the rest. Assumes nothing.
 use borrow.Author.Needs.{needs}
-use mathlib.Core.Path.{_≡_, refl, sym, ap, _∙_}
-use lib.Dec.{lit≤, lit<}
-use Rattle.signed.specs.Word.{rd, rdn, rk}
+use lib.Dec.{lit≤}
 use Rattle.passes.specs.Comes.{wider, read-in}
 use Rattle.passes.specs.Kept.{remain-in, rows-in}
 use Rattle.passes.specs.Enter.{moved-to, moved-refused}

@@ -1,11 +1,11 @@
 -- `passes::load::moved_on` meets its contract: the sum is the definition's, and the law has the rest. Assumes nothing.
 use borrow.Author.Needs.{needs}
-use mathlib.Core.Path.{_≡_, refl, sym, ap, _∙_}
-use lib.Dec.{lit≤, lit<}
-use lib.IntN.{ℤ, pos, negℤ, _+ℤ_, _-ℤ_, _*ℤ_}
+use mathlib.Core.Path.{_≡_, sym, _∙_}
+use lib.Dec.{lit≤}
+use lib.IntN.{ℤ, pos, _*ℤ_}
 use mir.Syntax.{w64}
 use mir.Val.{toZ, ofZ}
-use Rattle.signed.specs.Word.{rd, rdn, rk}
+use Rattle.signed.specs.Word.{rk}
 use Rattle.passes.specs.Comes.{wider, read-in, times-in, times-comm}
 use Rattle.passes.specs.Kept.{remain-in, rows-in}
 use Rattle.passes.specs.Enter.{on-to, on-refused}

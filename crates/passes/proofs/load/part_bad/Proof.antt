@@ -1,5 +1,5 @@
 -- `passes::load::part_bad` meets its contract: each test picks a branch of the definition. Assumes nothing.
-use mathlib.Core.Path.{_≡_, sym, ap, _∙_}
+use mathlib.Core.Path.{sym}
 use Rattle.signed.specs.Word.{rd}
 use Rattle.passes.specs.Loads.{bad-rows, bad-width, bad-place}
 use Rattle.passes.proofs.load.part_bad.Statement.{statement}

@@ -1,13 +1,13 @@
 -- `passes::load::rest` meets its contract: the rows before the last are the definition's. Assumes nothing.
 use borrow.Author.Needs.{needs}
-use mathlib.Core.Path.{_≡_, refl, sym, ap, _∙_}
-use lib.Dec.{lit≤, lit<}
-use lib.IntN.{ℤ, pos, negℤ, _+ℤ_, _-ℤ_, _*ℤ_}
+use mathlib.Core.Path.{_≡_, _∙_}
+use lib.Dec.{lit≤}
+use lib.IntN.{pos}
 use mir.Syntax.{w64}
 use mir.Val.{toZ, ofZ}
-use Rattle.signed.specs.Word.{rd, rdn, rk}
+use Rattle.signed.specs.Word.{rdn, rk}
 use native.Mathlib.Omega.{arith}
-use Rattle.passes.specs.Comes.{wider, read-in, less-in, within}
+use Rattle.passes.specs.Comes.{wider, read-in, less-in}
 use Rattle.passes.specs.Kept.{remain-in}
 use Rattle.passes.specs.Enter.{rest-is, reaches-as}
 use Rattle.passes.specs.Coming.{loadableOf}

@@ -1,16 +1,16 @@
 -- `passes::load::split` meets its contract: each number is the definition's, with its range. Assumes nothing.
 use borrow.Author.Needs.{needs}
-use mathlib.Core.Path.{_≡_, refl, sym, ap, _∙_}
+use mathlib.Core.Path.{_≡_, _∙_}
 use lib.Dec.{lit≤, lit<}
-use lib.IntN.{ℤ, pos, negℤ, _+ℤ_, _-ℤ_, _*ℤ_}
+use lib.IntN.{pos, _-ℤ_}
 use mir.Syntax.{w64}
 use mir.Val.{toZ, ofZ}
-use Rattle.signed.specs.Word.{rd, rdn, rk}
+use Rattle.signed.specs.Word.{rdn, rk}
 use native.Mathlib.Omega.{arith}
-use Rattle.signed.specs.Diff.{up, dn, zdiff, zparts, zarith}
-use Rattle.signed.specs.Floor.{floorDiv, modulo, modulo-lt}
-use Rattle.passes.specs.Comes.{wider, read-in, less-in, times-in, floor-in, fits}
-use Rattle.passes.specs.Coming.{loadableOf, splitFrom}
+use Rattle.signed.specs.Diff.{zarith}
+use Rattle.signed.specs.Floor.{modulo, modulo-lt}
+use Rattle.passes.specs.Comes.{wider, read-in, less-in, times-in, floor-in}
+use Rattle.passes.specs.Coming.{loadableOf}
 use Rattle.object.specs.Range.{Within}
 use Prim.Native.Nat.{_≤_, _<_}
 use Rattle.passes.proofs.load.split.Statement.{statement}

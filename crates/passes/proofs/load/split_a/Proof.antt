@@ -1,14 +1,13 @@
 -- `passes::load::split_a` meets its contract: the part is the definition's. Assumes nothing.
-use borrow.Author.Needs.{needs}
-use mathlib.Core.Path.{_≡_, refl, sym, ap, _∙_}
-use lib.Dec.{lit≤, lit<}
-use lib.IntN.{ℤ, pos, negℤ, _+ℤ_, _-ℤ_, _*ℤ_}
+use mathlib.Core.Path.{_≡_}
+use lib.Dec.{lit≤}
+use lib.IntN.{ℤ, pos, _+ℤ_}
 use mir.Syntax.{w64}
 use mir.Val.{toZ, ofZ}
-use Rattle.signed.specs.Word.{rd, rdn, rk}
+use Rattle.signed.specs.Word.{rd, rdn}
 use native.Mathlib.Omega.{arith}
-use Rattle.signed.specs.Diff.{up, dn, zdiff, zparts, zarith}
-use Rattle.passes.specs.Comes.{wider, read-in, fits}
+use Rattle.signed.specs.Diff.{zdiff, zarith}
+use Rattle.passes.specs.Comes.{wider, read-in}
 use Rattle.passes.specs.Kept.{remain-in}
 use Rattle.passes.specs.Enter.{split-a-is, reaches-as}
 use Rattle.passes.specs.Coming.{splitRows}

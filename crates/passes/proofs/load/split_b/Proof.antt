@@ -1,16 +1,16 @@
 -- `passes::load::split_b` meets its contract: the part is the definition's, and the other part's pointer is kept. Assumes nothing.
 use borrow.Author.Needs.{needs}
-use mathlib.Core.Path.{_≡_, refl, sym, ap, _∙_}
-use lib.Dec.{lit≤, lit<}
-use lib.IntN.{ℤ, pos, negℤ, _+ℤ_, _-ℤ_, _*ℤ_}
+use mathlib.Core.Path.{_≡_, refl, _∙_}
+use lib.Dec.{lit≤}
+use lib.IntN.{ℤ, pos, _+ℤ_, _-ℤ_}
 use mir.Syntax.{w64}
 use mir.Val.{toZ, ofZ}
 use Rattle.signed.specs.Word.{rd, rdn, rk}
 use native.Mathlib.Omega.{arith}
-use Rattle.signed.specs.Diff.{up, dn, zdiff, zparts, zarith}
+use Rattle.signed.specs.Diff.{zdiff, zarith}
 use Rattle.passes.specs.Comes.{wider, read-in, difference-in}
-use Rattle.passes.specs.Enter.{reaches-as, withSpare, spare-sound}
-use Rattle.passes.specs.Coming.{splitRows, splitFrom, splitWidth, partsFrom, pieceOut}
+use Rattle.passes.specs.Enter.{reaches-as, spare-sound}
+use Rattle.passes.specs.Coming.{splitRows, pieceOut}
 use Rattle.object.specs.Range.{Within}
 use Rattle.passes.proofs.load.split_b.Statement.{statement}
 use Rattle.passes.proofs.load.split_b.Tie as tie

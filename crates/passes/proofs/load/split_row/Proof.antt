@@ -1,14 +1,13 @@
 -- `passes::load::split_row` meets its contract: the three sums as the definition has them, and the parts. Assumes nothing.
 use borrow.Author.Needs.{needs}
-use mathlib.Core.Path.{_≡_, refl, sym, ap, _∙_}
-use lib.Dec.{lit≤, lit<}
-use lib.IntN.{ℤ, pos, negℤ, _+ℤ_, _-ℤ_, _*ℤ_}
+use mathlib.Core.Path.{_≡_, _∙_}
+use lib.Dec.{lit≤}
+use lib.IntN.{ℤ, pos, _*ℤ_}
 use mir.Syntax.{w64}
 use mir.Val.{toZ, ofZ}
-use Rattle.signed.specs.Word.{rd, rdn, rk}
+use Rattle.signed.specs.Word.{rk}
 use native.Mathlib.Omega.{arith}
 use Rattle.object.specs.Range.{Within}
-use Rattle.plan.specs.Out.{yield}
 use Rattle.passes.specs.Comes.{wider, read-in, less-in, times-in}
 use Rattle.passes.specs.Kept.{remain-in}
 use Rattle.passes.specs.Enter.{reaches-as, ended-as, split-1, split-2, split-3, split-4}

@@ -1,5 +1,5 @@
 -- `passes::rows::sum` meets its contract: the sum fits by its range. Assumes nothing.
-use lib.Dec.{lit≤, lit<}
+use lib.Dec.{lit≤}
 use lib.IntN.{_+ℤ_}
 use Rattle.signed.specs.Word.{rd}
 use Rattle.passes.specs.Comes.{sum-in, fits}

@@ -1,8 +1,7 @@
 -- `passes::step::load` meets its contract: the request's answer is the definition's. Assumes nothing.
 use borrow.Author.Needs.{needs}
-use mathlib.Core.Path.{_≡_, refl, sym, ap, _∙_}
-use lib.Dec.{lit≤, lit<}
-use Prim.Native.Nat.{ℕ}
+use mathlib.Core.Path.{_≡_, sym, ap, _∙_}
+use lib.Dec.{lit≤}
 use Rattle.tile.specs.declared.load.LoadRequest.{LoadRequest}
 use Rattle.tile.specs.Load.{requestOf}
 use Rattle.plan.specs.Load.{loadTile, loadOut}

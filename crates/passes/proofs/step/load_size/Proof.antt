@@ -1,6 +1,6 @@
 -- `passes::step::load_size` meets its contract: the test picks the size. Assumes nothing.
-use mathlib.Core.Path.{_≡_, refl, sym, ap, _∙_}
-use lib.Dec.{lit≤, lit<}
+use mathlib.Core.Path.{sym}
+use lib.Dec.{lit≤}
 use borrow.Author.Tests.{eq-eqb, ne-eqb}
 use Rattle.passes.proofs.step.load_size.Statement.{statement}
 use Rattle.passes.proofs.step.load_size.Tie as tie

@@ -1,6 +1,6 @@
 -- `passes::step::short` meets its contract: a number of 16 bits reads the same in 64. Assumes nothing.
 use borrow.Author.Needs.{needs}
-use mathlib.Core.Path.{_≡_, _∙_}
+use mathlib.Core.Path.{_∙_}
 use mir.Syntax.{w16}
 use mir.ValLaws.{toZ-ofZ}
 use Rattle.signed.specs.Word.{rd, rk}

@@ -1,7 +1,6 @@
 -- `passes::step::tile7` meets its contract: the literal is the definition's. Assumes nothing.
 use borrow.Author.Needs.{needs}
-use mathlib.Core.Path.{_≡_, refl, sym, ap, _∙_}
-use Rattle.signed.specs.Word.{rd, rdn, rk}
+use Rattle.signed.specs.Word.{rd}
 use Rattle.passes.proofs.step.tile7.Statement.{statement}
 use Rattle.passes.proofs.step.tile7.Tie as tie
 

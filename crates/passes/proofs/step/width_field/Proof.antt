@@ -1,12 +1,8 @@
 -- `passes::step::width_field` meets its contract: half the stride less one, cut. Assumes nothing.
 use borrow.Author.Needs.{needs}
-use mathlib.Core.Path.{_≡_, refl, sym, ap, _∙_}
-use lib.IntN.{ℤ, pos, negℤ, _+ℤ_, _-ℤ_, _*ℤ_}
 use Prim.Native.Nat.{_/_}
-use mir.Syntax.{w64}
-use mir.Val.{toZ, ofZ}
-use Rattle.signed.specs.Word.{rd, rdn, rk}
-use Rattle.signed.specs.Diff.{up, dn, zdiff, zparts, zarith}
+use Rattle.signed.specs.Word.{rd, rdn}
+use Rattle.signed.specs.Diff.{zdiff, zarith}
 use Rattle.passes.proofs.step.width_field.Statement.{statement}
 use Rattle.passes.proofs.step.width_field.Tie as tie
 

@@ -1,15 +1,13 @@
 -- `passes::sums::advance` meets its contract: the test picks the definition's branch, and the sum's answer is the definition's. Assumes nothing.
 use borrow.Author.Needs.{needs}
-use mathlib.Core.Path.{_≡_, sym, ap, _∙_}
+use mathlib.Core.Path.{_≡_, _∙_}
 use native.Mathlib.Omega.{arith}
 use lib.Dec.{lit≤}
-use lib.IntN.{ℤ, pos, negℤ, _+ℤ_, _-ℤ_, _*ℤ_}
+use lib.IntN.{ℤ, pos, _+ℤ_, _-ℤ_, _*ℤ_}
 use mir.Syntax.{w64}
 use mir.Val.{toZ, ofZ}
-use Rattle.signed.specs.Diff.{zdiff, zarith}
 use Rattle.signed.specs.Word.{rk}
-use Rattle.object.specs.Range.{Within}
-use Rattle.passes.specs.Comes.{difference-in, times-in, plus-in, wider, read-in, times-comm}
+use Rattle.passes.specs.Comes.{difference-in, times-in, plus-in, wider, read-in}
 use Rattle.passes.specs.Loads.{advance-by-on, advance-by-wrap}
 use Rattle.passes.proofs.sums.advance.Statement.{statement}
 use Rattle.passes.proofs.sums.advance.Tie as tie

@@ -1,13 +1,12 @@
 -- `passes::walk::cut_lines` meets its contract: the test picks the definition's branch. Assumes nothing.
 use borrow.Author.Needs.{needs}
-use mathlib.Core.Path.{_≡_, refl, sym, ap, _∙_}
-use lib.Dec.{lit≤, lit<}
-use lib.IntN.{ℤ, pos, negℤ, _+ℤ_, _-ℤ_, _*ℤ_}
-use Rattle.signed.specs.Word.{rd, rdn, rk}
+use mathlib.Core.Path.{_≡_, sym, ap, _∙_}
+use lib.Dec.{lit≤}
+use lib.IntN.{ℤ, pos, _+ℤ_}
+use Rattle.signed.specs.Word.{rd, rk}
 use native.Mathlib.Omega.{arith}
-use Rattle.signed.specs.Diff.{up, dn, zdiff, zparts, zarith}
+use Rattle.signed.specs.Diff.{up, zdiff, zarith}
 use Rattle.passes.specs.Comes.{wider}
-use Rattle.passes.specs.Sound.{cutLines}
 use Rattle.passes.proofs.walk.cut_lines.Statement.{statement}
 use Rattle.passes.proofs.walk.cut_lines.Tie as tie
 

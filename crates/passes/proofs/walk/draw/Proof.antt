@@ -1,6 +1,6 @@
 -- `passes::walk::draw` meets its contract: the pass is the definition's, and its law has the rest. Assumes nothing.
-use mathlib.Core.Path.{_≡_, refl, sym, ap, _∙_}
-use lib.Dec.{lit≤, lit<}
+use mathlib.Core.Path.{_≡_, refl, _∙_}
+use lib.Dec.{lit≤}
 use mir.Syntax.{w64}
 use mir.Val.{toZ, ofZ}
 use Rattle.signed.specs.Word.{rk}

@@ -1,13 +1,12 @@
 -- `passes::walk::drawn` meets its contract: the walk after a pass, by its numbers. Assumes nothing.
 use borrow.Author.Needs.{needs}
-use mathlib.Core.Path.{_≡_, refl, sym, ap, _∙_}
+use mathlib.Core.Path.{_≡_, _∙_}
 use lib.Dec.{lit≤, lit<}
-use lib.IntN.{ℤ, pos, negℤ, _+ℤ_, _-ℤ_, _*ℤ_}
 use mir.Syntax.{w64}
 use mir.Val.{toZ, ofZ}
-use Rattle.signed.specs.Word.{rd, rdn, rk}
+use Rattle.signed.specs.Word.{rdn, rk}
 use native.Mathlib.Omega.{arith}
-use Rattle.signed.specs.Diff.{up, dn, zdiff, zparts, zarith}
+use Rattle.signed.specs.Diff.{zarith}
 use Rattle.signed.specs.Floor.{modulo, modulo-lt}
 use Prim.Native.Nat.{_<_}
 use Rattle.plan.specs.Scaled.{drawOf, leftAfter}

@@ -1,11 +1,10 @@
 -- `passes::walk::next_pass` meets its contract: no line is left, or the passes go on. Assumes nothing.
-use borrow.Author.Needs.{needs}
-use mathlib.Core.Path.{_≡_, refl, sym, ap, _∙_}
+use mathlib.Core.Path.{_≡_, sym, ap}
 use mir.Syntax.{w64}
 use mir.Val.{toZ, ofZ}
-use Rattle.signed.specs.Word.{rd, rdn, rk}
-use Rattle.signed.specs.Diff.{up, dn, zdiff, zparts, zarith}
-use lib.IntN.{ℤ, pos, negℤ, _+ℤ_, _-ℤ_, _*ℤ_}
+use Rattle.signed.specs.Word.{rk}
+use Rattle.signed.specs.Diff.{up, zarith}
+use lib.IntN.{ℤ, pos}
 use lib.Signed.{_≤ℤ_}
 use Prim.Native.Nat.{_≤_}
 use Rattle.passes.specs.Rounds.{passes-over}

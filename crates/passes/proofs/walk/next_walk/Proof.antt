@@ -1,6 +1,6 @@
 -- `passes::walk::next_walk` meets its contract: the literal is the definition's. Assumes nothing.
 use borrow.Author.Needs.{needs}
-use mathlib.Core.Path.{_≡_, refl, sym, ap, _∙_}
+use mathlib.Core.Path.{_∙_}
 use Rattle.signed.specs.Word.{rd, rdn, rk}
 use native.Mathlib.Omega.{arith}
 use Rattle.passes.proofs.walk.next_walk.Statement.{statement}

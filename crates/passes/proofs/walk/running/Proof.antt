@@ -2,7 +2,7 @@
 use borrow.Author.Needs.{needs}
 use mathlib.Core.Path.{_≡_, refl, sym, ap, _∙_}
 use lib.Dec.{lit≤, eqb}
-use lib.IntN.{ℤ, pos}
+use lib.IntN.{pos}
 use Prim.Native.Nat.{ℕ, zero, suc, _-_, _≤_}
 use mir.Syntax.{w64}
 use mir.Val.{toZ, ofZ}

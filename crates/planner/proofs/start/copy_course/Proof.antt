@@ -1,10 +1,7 @@
 -- `planner::start::copy_course` meets its contract: an empty frame, or the walk from its first place. Assumes nothing.
 use borrow.Author.Needs.{needs}
-use mathlib.Core.Path.{_≡_, refl, sym, ap, _∙_}
-use mathlib.Core.Bool.{true, false}
-use Rattle.plan.specs.declared.types.Copy.{Copy}
-use Rattle.plan.specs.Copy.{copyOf, copyEmpty}
-use Rattle.plan.specs.Sound.{SoundCopy}
+use mathlib.Core.Path.{sym, ap, _∙_}
+use Rattle.plan.specs.Copy.{copyEmpty}
 use Rattle.planner.specs.Start.{copy-none, copy-begins}
 use Rattle.planner.proofs.start.copy_course.Statement.{statement}
 use Rattle.planner.proofs.start.copy_course.Tie as tie

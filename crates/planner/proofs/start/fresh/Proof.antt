@@ -1,6 +1,6 @@
 -- `planner::start::fresh` meets its contract: what the checks answer picks the law. Assumes nothing.
 use borrow.Author.Needs.{needs}
-use mathlib.Core.Path.{_≡_, refl, sym, ap, _∙_}
+use mathlib.Core.Path.{sym, _∙_}
 use Rattle.planner.specs.Start.{fresh-refused, fresh-copy, fresh-scaled}
 use Rattle.planner.proofs.start.fresh.Statement.{statement}
 use Rattle.planner.proofs.start.fresh.Tie as tie

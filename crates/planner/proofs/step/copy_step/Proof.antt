@@ -1,5 +1,5 @@
 -- `planner::step::copy_step` meets its contract: what the copy walk answers picks the law. Assumes nothing.
-use mathlib.Core.Path.{_≡_, refl, sym, ap, _∙_}
+use mathlib.Core.Path.{sym, _∙_}
 use Rattle.object.specs.declared.types.Verdict.the-variants as verdict
 use Rattle.planner.specs.declared.types.Course.the-variants as course
 use Rattle.planner.specs.Step.{step-given, step-stopped, step-refused, copy-given, copy-too-big, copy-overflow, copy-finished}

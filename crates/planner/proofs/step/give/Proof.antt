@@ -1,5 +1,4 @@
 -- `planner::step::give` meets its contract: the counts go with the entry. Assumes nothing.
-use mathlib.Core.Path.{_≡_, refl, sym, ap, _∙_}
 use borrow.Author.Needs.{needs}
 use Rattle.planner.proofs.step.give.Statement.{statement}
 use Rattle.planner.proofs.step.give.Tie as tie

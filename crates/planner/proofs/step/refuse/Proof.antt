@@ -1,5 +1,4 @@
 -- `planner::step::refuse` meets its contract: the counts give the end. Assumes nothing.
-use mathlib.Core.Path.{_≡_, refl, sym, ap, _∙_}
 use borrow.Author.Needs.{needs}
 use Rattle.planner.proofs.step.refuse.Statement.{statement}
 use Rattle.planner.proofs.step.refuse.Tie as tie

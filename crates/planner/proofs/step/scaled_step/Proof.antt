@@ -1,5 +1,4 @@
 -- `planner::step::scaled_step` meets its contract: what the scaled walk answers picks the law. Assumes nothing.
-use mathlib.Core.Path.{_≡_, refl, sym, ap, _∙_}
 use Rattle.planner.specs.declared.types.Course.the-variants as course
 use Rattle.planner.specs.Step.{step-refused, step-scaled}
 use borrow.Author.Needs.{needs}

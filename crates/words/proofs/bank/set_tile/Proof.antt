@@ -1,6 +1,5 @@
 -- `words::bank::set_tile` meets its contract: eleven words are put where the tile is there. Assumes nothing.
 use borrow.Author.Tests.{lt-ltb, le-ltb}
-use native.Mathlib.Omega.{arith}
 use borrow.Author.Needs.{needs}
 use Rattle.words.proofs.bank.set_tile.Statement.{statement}
 use Rattle.words.proofs.bank.set_tile.Tie as tie

@@ -1,5 +1,4 @@
 -- `words::bank::settle_bounds` meets its contract: the bounds are set by the entry where there is one. Assumes nothing.
-use mathlib.Core.Path.{_≡_}
 use native.Mathlib.Omega.{arith}
 use borrow.Author.Needs.{needs}
 use borrow.Author.Tests.{eq-eqb, ne-eqb}
