@@ -125,23 +125,23 @@ pub struct Start {
 
 // What no pass of a scaled plan changes; frame_rows counts lines in 1,024ths.
 pub struct Scaled {
-    pub fmt: u64,
-    pub siz: u64,
-    pub palette: u64,
-    pub address: u64,
-    pub x: Quarters,
-    pub x_end: Quarters,
-    pub scale_w: Scale,
-    pub scale_h: Scale,
-    pub bilerp: u64,
-    pub split: u64,
     pub source_rows: u64,
     pub line: u64,
     pub image_rows: u64,
     pub frame_rows: u64,
     pub stride: u64,
     pub x_offset: u64,
+    pub split: u64,
+    pub bilerp: u64,
+    pub address: u64,
+    pub fmt: u64,
+    pub siz: u64,
+    pub palette: u64,
+    pub x: Quarters,
+    pub x_end: Quarters,
     pub s: ThirtySeconds,
+    pub scale_w: Scale,
+    pub scale_h: Scale,
 }
 
 // The first strip of a scaled plan; image_hidden counts rows and count lines, both in 1,024ths.
