@@ -73,7 +73,7 @@ returns : tie.Need-returns
 returns c =
     let s = c .before .before .before .before .before .before .before .before .before .before .before .before .before .before .before .before .before .before .before .before in
     let z = s .args .p .scaled in
-    let us = rk _ (c .before .before .before .before .before .before .before .short .ok) ∙ (rw (rk (z .s .0) (c .before .before .before .before .before .before .before .before .struct-told2 .given .1 .1 .1 .1 .1 .1 .1 .1 .1 .1 .1 .1 .1 .1 .1 .1 .0 .1 .1 .0 .1)) at (c .before .before .before .before .before .before .before .short .ensures)) in
+    let us = rk _ (c .before .before .before .before .before .before .before .short .ok) ∙ (rw (rk (z .s .0) (c .before .before .before .before .before .before .before .before .struct-told2 .given .1 .1 .1 .1 .1 .1 .1 .1 .1 .1 .1 .1 .1 .1 .0 .1 .1 .0 .1)) at (c .before .before .before .before .before .before .before .short .ensures)) in
     let ut = rk _ (c .before .before .before .before .before .short2 .ok) ∙ (rw (below-read (lit≤ tt) (s .pre .walk .t)) at (c .before .before .before .before .before .short2 .ensures)) in
     let dx = rk _ (c .before .before .before .short3 .ok) ∙ (rw (rdn (z .«scale_w» .0) (cast-short (c .before .before .before .before) .sfits)) at (c .before .before .before .short3 .ensures)) in
     let dy = rk _ (c .before .short4 .ok) ∙ (rw (rdn (z .«scale_h» .0) (cast-short-2 (c .before .before) .sfits)) at (c .before .short4 .ensures)) in
