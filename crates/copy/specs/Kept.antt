@@ -18,7 +18,7 @@ use Rattle.copy.specs.declared.types.Due.the-variants as due
 use Rattle.copy.specs.declared.types.Stage.{Stage}
 use Rattle.copy.specs.declared.types.Stage.the-variants as stage
 use Rattle.copy.specs.declared.types.Place.{Place}
-use Rattle.copy.specs.Strip.{Rows, strip-bounds, height-in}
+use Rattle.strips.specs.Strip.{Rows, strip-bounds, height-in}
 use Rattle.copy.specs.Walk.{placeAt, rowAt, startAt, SoundPlace, soundAt, areaOf, requestIn, tile7Next, loadNext, stripNext, copyNextOf, CopyWalk, asNext}
 
 -- the cells from here on, in rows of 1,024, of which a strip takes at least one for its five entries

@@ -27,7 +27,7 @@ use Rattle.copy.specs.declared.types.Stage.the-variants as stage
 use Rattle.copy.specs.declared.types.Place.{Place}
 use Rattle.copy.specs.declared.types.CopyNext.{CopyNext}
 use Rattle.copy.specs.declared.types.CopyNext.the-variants as next
-use Rattle.copy.specs.Strip.{Bounds, Rows}
+use Rattle.strips.specs.Strip.{Bounds, Rows}
 
 -- ---- where a walk stands
 

@@ -1,15 +1,7 @@
 // Where a copy walk stands, and what one step of it answers.
-use object::Quarters;
 use plan::Copy;
 use plan::Entry;
 use plan::Strip;
-
-// One axis of the frame clipped by the scissor: the near edge, the cells inside, and the cells cut off before them.
-pub struct Axis {
-    pub edge: Quarters,
-    pub cells: u64,
-    pub skip: u64,
-}
 
 // The bounds of a load into tile 7.
 pub struct Area {

@@ -7,9 +7,6 @@ ghost use Rattle.plan.specs.Copy.{field, bound};
 ghost use Rattle.plan.specs.Sound.{SoundCopy};
 ghost use Rattle.copy.specs.Walk.{placeAt, startAt, SoundPlace, soundAt, imageEntry, tileEntry, tile0Entry, sizeEntry, areaOf, requestIn, firstTexel, rectEntry, dueEntry, tooBig, loadNext, copyNextOf};
 ghost use Rattle.copy.specs.declared.types.Stage.the-variants as stage;
-use crate::strip::strip_height;
-use crate::strip::strip_of;
-use crate::strip::strip_row;
 use crate::types::Area;
 use crate::types::CopyNext;
 use crate::types::Due;
@@ -19,6 +16,9 @@ use object::Quarters;
 use plan::Copy;
 use plan::Entry;
 use plan::Strip;
+use strips::strip_height;
+use strips::strip_of;
+use strips::strip_row;
 use tile::LoadRequest;
 
 // At cell x of the row of strips at line y.

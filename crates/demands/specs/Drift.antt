@@ -18,9 +18,9 @@ use Rattle.plan.specs.Demand.{driftOf, stripsOf, AllNear, Apt}
 use Rattle.drift.specs.Prefix.{entriesIn, given-is, first-near}
 use Rattle.drift.specs.Words.{rectsFrom, run-near}
 use Rattle.planner.specs.declared.types.Planner.{Planner}
-use Rattle.words.specs.Host.{endNumbers, runWords, run-end, run-buffer}
+use Rattle.settling.specs.Host.{endNumbers, runWords, run-end, run-buffer}
 use Rattle.planner.specs.Coming.{Fresh, requestOf}
-use Rattle.planner.specs.Ran.{RanIs}
+use Rattle.runs.specs.Ran.{RanIs}
 use Rattle.request.specs.Host.{hostRequest}
 use Rattle.export.specs.Host.{left, ranLeft, hostRun}
 use Rattle.demands.specs.Steps.{Steps, StepsAlone, with-bank, answered-is}

@@ -14,7 +14,7 @@ use Rattle.object.specs.declared.types.Checked.{Checked}
 use Rattle.object.specs.declared.types.Checked.the-variants as checked
 use Rattle.object.specs.declared.types.Verdict.{Verdict}
 use Rattle.object.specs.declared.types.Verdict.the-variants as verdict
-use Rattle.object.specs.Check.{verdictNumber, checkedOf}
+use Rattle.checks.specs.Check.{verdictNumber, checkedOf}
 use Rattle.tile.specs.declared.load.LoadRequest.{LoadRequest}
 use Rattle.tile.specs.declared.load.LoadRequest.the-variants as request
 use Rattle.tile.specs.Load.{requestOf}

@@ -14,7 +14,7 @@ use borrow.Author.Tests.{eqb-true, eqb-false}
 use Rattle.signed.specs.Diff.{up}
 use Rattle.object.specs.declared.types.Checked.{Checked}
 use Rattle.object.specs.declared.types.Checked.the-variants as checked
-use Rattle.object.specs.Check.{checkedOf}
+use Rattle.checks.specs.Check.{checkedOf}
 use Rattle.object.specs.Measure.{quarters, texels}
 use Rattle.object.specs.declared.types.Verdict.the-variants as verdict
 use Rattle.tile.specs.declared.bank.Tile.{Tile}
@@ -36,7 +36,7 @@ use Rattle.plan.specs.Scaled.{sizeOf, firstPass, passes, clipOf, scaledEmpty, s
 use Rattle.plan.specs.Whole.{copyOut, scaledOut, checkedOut, planWith, planOf}
 use Rattle.plan.specs.Run.{bankStep, wordsFrom, tileWords}
 use Rattle.plan.specs.Laws.{entriesOut, columns-on, columns-end, rows-on, rows-end}
-use Rattle.words.specs.Host.{eight-still}
+use Rattle.settling.specs.Host.{eight-still}
 
 -- each load stands after a setting of tile 7; `done` says that there was one before the list
 abbrev pub LoadsAfter : (done : Bool) → List Entry → Type 0

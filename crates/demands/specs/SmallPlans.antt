@@ -19,12 +19,13 @@ use Rattle.object.specs.declared.types.ObjBg.{ObjBg}
 use Rattle.object.specs.declared.types.Scissor.{Scissor}
 use Rattle.object.specs.declared.types.Checked.{Checked}
 use Rattle.object.specs.declared.types.Checked.the-variants as checked
-use Rattle.object.specs.Check.{checkedOf}
+use Rattle.checks.specs.Check.{checkedOf}
 use Rattle.object.specs.Measure.{quarters, texels, ofTexels}
 use Rattle.object.specs.Layout.{Bytes, layout, valueOf, decode}
-use Rattle.object.specs.Range.{Below, PassedCopy, PassedScaled}
+use Rattle.object.specs.Range.{Below}
+use Rattle.checks.specs.Known.{PassedCopy, PassedScaled}
 use Rattle.object.specs.Reads.{read-below}
-use Rattle.object.specs.Passed.{passed-copy, passed-scaled, checked-copy-is}
+use Rattle.checks.specs.Passed.{passed-copy, passed-scaled, checked-copy-is}
 use Rattle.plan.specs.declared.types.Entry.the-variants as entry
 use Rattle.plan.specs.declared.types.Copy.{Copy}
 use Rattle.plan.specs.declared.types.Strip.{Strip}
@@ -41,8 +42,8 @@ use Rattle.plan.specs.Whole.{copyOut, scaledOut, checkedOut, planWith, planOf}
 use Rattle.plan.specs.Copy.{field, bound, stripEntries, strip, stripOf, columns, rows, stripRow, stripHeight, copyOf, copyEmpty, copyPlan}
 use Rattle.plan.specs.Scaled.{sizeOf, fieldOf, lrsOf, lrtOf, tile7, loadPart, load1cycTile, back, fromTop, splitRow, upToEnd, advance, load1cyc, leftAfter, linesOf, rowsOf, rectOf, drawOf, drawPass, idlePass, pass, passes, firstPass, scaledPlan, clipOf, scaledEmpty, startOf, scaledOf, slicesBad, firstOf}
 use Rattle.plan.specs.Sound.{SoundCopy, SoundScaled}
-use Rattle.copy.specs.Frame.{copy-sound}
-use Rattle.copy.specs.Strip.{Bounds, Rows, strip-bounds, height-in}
+use Rattle.strips.specs.Frame.{copy-sound}
+use Rattle.strips.specs.Strip.{Bounds, Rows, strip-bounds, height-in}
 use Rattle.scaled.specs.Range.{usable}
 use Rattle.scaled.specs.ClipLaw.{clip-filled}
 use Rattle.scaled.specs.StartLaw.{start-in}

@@ -11,7 +11,7 @@ use lib.IntN.{ℤ, pos, _+ℤ_}
 use Rattle.signed.specs.Diff.{up}
 use Rattle.signed.specs.Floor.{floorDiv, modulo}
 use Rattle.object.specs.Layout.{Bytes, decode}
-use Rattle.object.specs.Passed.{decode-range}
+use Rattle.checks.specs.Passed.{decode-range}
 use Rattle.plan.specs.Request.{Request}
 use Rattle.plan.specs.declared.types.Entry.{Entry}
 use Rattle.plan.specs.declared.types.Scaled.{Scaled}

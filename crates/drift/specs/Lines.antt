@@ -18,8 +18,8 @@ use Rattle.object.specs.declared.types.Verdict.the-variants as verdict
 use Rattle.object.specs.declared.types.Checked.{Checked}
 use Rattle.object.specs.Measure.{quarters, texels}
 use Rattle.object.specs.Layout.{Bytes, decode}
-use Rattle.object.specs.Check.{verdictNumber}
-use Rattle.object.specs.Passed.{decode-range}
+use Rattle.checks.specs.Check.{verdictNumber}
+use Rattle.checks.specs.Passed.{decode-range}
 use Rattle.plan.specs.Request.{Request}
 use Rattle.plan.specs.declared.types.Entry.{Entry}
 use Rattle.plan.specs.declared.types.Entry.the-variants.{Image, Tile, Size, Load, Rect}

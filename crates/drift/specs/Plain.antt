@@ -15,7 +15,7 @@ use Rattle.plan.specs.declared.types.Entry.the-variants.{Image, Tile, Size, Loa
 use Rattle.plan.specs.Out.Out.{go, stop}
 use Rattle.object.specs.declared.types.Verdict.{Verdict}
 use Rattle.object.specs.declared.types.Verdict.the-variants as verdict
-use Rattle.object.specs.Check.{verdictNumber}
+use Rattle.checks.specs.Check.{verdictNumber}
 use Rattle.tile.specs.declared.load.LoadRequest.{LoadRequest}
 use Rattle.tile.specs.declared.load.LoadRequest.the-variants as request
 use Rattle.tile.specs.Load.{requestOf}

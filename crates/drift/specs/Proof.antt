@@ -30,7 +30,7 @@ use Rattle.object.specs.declared.types.Verdict.the-variants as verdict
 use Rattle.object.specs.declared.types.Checked.{Checked}
 use Rattle.object.specs.declared.types.Checked.the-variants as checked
 use Rattle.object.specs.declared.types.Scissor.{Scissor}
-use Rattle.object.specs.Check.{any, objectFaults, opcodeBad, copies, short, scissorBad, refusedBy, objectOf, checkedOf}
+use Rattle.checks.specs.Check.{any, objectFaults, opcodeBad, copies, short, scissorBad, refusedBy, objectOf, checkedOf}
 use Rattle.plan.specs.Whole.{planOf, planWith, checkedOut, scaledOut}
 use Rattle.plan.specs.Laws.{entriesOut, more-nil, passes-on, passes-end}
 use Rattle.plan.specs.Demand.{Drift, driftOf, strips, stripsOf, Apt, Demand3}

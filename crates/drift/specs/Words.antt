@@ -35,7 +35,7 @@ use Rattle.plan.specs.Scaled.{tile7, clipOf, startOf, scaledOf, firstOf, firstP
 use Rattle.object.specs.declared.types.Verdict.the-variants as verdict
 use Rattle.object.specs.declared.types.Verdict.the-variants.{Full}
 use Rattle.object.specs.declared.types.Checked.{Checked}
-use Rattle.object.specs.Check.{checkedOf}
+use Rattle.checks.specs.Check.{checkedOf}
 use Rattle.plan.specs.Whole.{planOf, planWith, checkedOut, scaledOut}
 use Rattle.plan.specs.Run.{Ran, rectangles, entryWords, planWords, cutAt, endOf, runOf}
 use Rattle.plan.specs.Steps.{RunGives}

@@ -30,7 +30,7 @@ pub extern "C" fn bg_run(
         return 1;
     }
     let q = request::from_words(request);
-    let ended = planner::run(
+    let ended = runs::run(
         object,
         q.opcode,
         q.scissor,
@@ -39,7 +39,7 @@ pub extern "C" fn bg_run(
         &mut *bank,
         &mut *plan,
     );
-    words::end_into(&mut *end, ended);
+    settling::end_into(&mut *end, ended);
     0
 }
 
@@ -55,7 +55,7 @@ pub extern "C" fn bg_count(object: &[u8], request: &[u64], end: &mut [u64]) -> u
         return 1;
     }
     let q = request::from_words(request);
-    let ended = planner::count(object, q.opcode, q.scissor, q.mode, q.address);
-    words::end_into(&mut *end, ended);
+    let ended = runs::count(object, q.opcode, q.scissor, q.mode, q.address);
+    settling::end_into(&mut *end, ended);
     0
 }

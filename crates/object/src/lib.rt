@@ -1,12 +1,9 @@
-// Background objects: their measures, their fields, and the checks that a request must pass.
-mod check;
+// Background objects: their measures and their fields.
 mod decode;
 mod measure;
 mod reader;
 mod types;
 
-pub use check::checked;
-pub use check::number;
 pub use decode::Decoded;
 pub use decode::decode_obj_bg;
 pub use measure::edge;

@@ -30,21 +30,21 @@ use Rattle.tile.specs.declared.load.LoadRequest.the-variants as request
 use Rattle.tile.specs.Load.{requestOf, rowsIn}
 use Rattle.tile.specs.Laws.{rows-in}
 use Rattle.plan.specs.Scaled.{sizeOf, fieldOf, lrsOf, lrtOf, tile7, loadPart, loadRows, rectOf, advance, drawOf, leftAfter, afterDraw, firstPass, passes, scaledPlan}
-use Rattle.passes.specs.declared.types.Part.{Part}
-use Rattle.passes.specs.declared.types.Piece.the-variants as piece
-use Rattle.passes.specs.declared.types.Due.{Due}
-use Rattle.passes.specs.declared.types.Due.the-variants as due
-use Rattle.passes.specs.declared.types.Turn.{Turn}
-use Rattle.passes.specs.declared.types.Turn.the-variants as turn
-use Rattle.passes.specs.declared.types.Stage.the-variants as stage
-use Rattle.passes.specs.declared.types.Place.{Place}
-use Rattle.passes.specs.declared.types.Reached.{Reached}
-use Rattle.passes.specs.declared.types.Reached.the-variants as reached
-use Rattle.passes.specs.declared.types.ScaledNext.the-variants as next
-use Rattle.passes.specs.Coming.{dueStage, stageOf, passesOf, pieceOut, drawn, passFrom, tile0, imageOf, partOut, rowsOut, wholePart, afterPart, afterWhole, dueEntry, dueWalk, turnOut, afterTurn, comingScaled}
-use Rattle.passes.specs.Loads.{emit-first, emit-plan, then-assoc, after-yield, after-refuse}
-use Rattle.passes.specs.Sound.{SoundWalk, SoundPass, SoundPiece, SoundRect, SoundStart, ClipIn, soundAt, Reaches, Gave, leftAt, leftTurn, leftReached, leftPass, afterPiece}
-use Rattle.passes.specs.Enter.{ended-as}
+use Rattle.loads.specs.declared.types.Part.{Part}
+use Rattle.loads.specs.declared.types.Piece.the-variants as piece
+use Rattle.loads.specs.declared.types.Due.{Due}
+use Rattle.loads.specs.declared.types.Due.the-variants as due
+use Rattle.loads.specs.declared.types.Turn.{Turn}
+use Rattle.loads.specs.declared.types.Turn.the-variants as turn
+use Rattle.loads.specs.declared.types.Stage.the-variants as stage
+use Rattle.loads.specs.declared.types.Place.{Place}
+use Rattle.loads.specs.declared.types.Reached.{Reached}
+use Rattle.loads.specs.declared.types.Reached.the-variants as reached
+use Rattle.loads.specs.declared.types.ScaledNext.the-variants as next
+use Rattle.loads.specs.Coming.{dueStage, stageOf, passesOf, pieceOut, drawn, passFrom, tile0, imageOf, partOut, rowsOut, wholePart, afterPart, afterWhole, dueEntry, dueWalk, turnOut, afterTurn, comingScaled}
+use Rattle.loads.specs.Loads.{emit-first, emit-plan, then-assoc, after-yield, after-refuse}
+use Rattle.loads.specs.Sound.{SoundWalk, SoundPass, SoundPiece, SoundRect, SoundStart, ClipIn, soundAt, Reaches, Gave, leftAt, leftTurn, leftReached, leftPass, afterPiece}
+use Rattle.loads.specs.Enter.{ended-as}
 
 -- the rows and the line of each entry are few, and what a tile keeps of it is narrow
 plain-in : EntryIn (Size 0 0 0 0 0)

@@ -23,16 +23,16 @@ use Rattle.plan.specs.Out.{_>>=_, yield, refuse, planOut}
 use Rattle.plan.specs.Next.{ended}
 use Rattle.plan.specs.Sound.{SoundScaled}
 use Rattle.plan.specs.Scaled.{drawOf, leftAfter, linesOf, rowsOf, nextPass, advance, load1cyc}
-use Rattle.passes.specs.declared.types.Place.{Place}
-use Rattle.passes.specs.declared.types.Piece.the-variants as piece
-use Rattle.passes.specs.declared.types.Begun.{Begun}
-use Rattle.passes.specs.declared.types.Begun.the-variants as begun
-use Rattle.passes.specs.Coming.{passesOf, pieceOut, drawn}
+use Rattle.loads.specs.declared.types.Place.{Place}
+use Rattle.loads.specs.declared.types.Piece.the-variants as piece
+use Rattle.loads.specs.declared.types.Begun.{Begun}
+use Rattle.loads.specs.declared.types.Begun.the-variants as begun
+use Rattle.loads.specs.Coming.{passesOf, pieceOut, drawn}
 use Rattle.passes.specs.Rounds.{idle-round, draw-round}
-use Rattle.passes.specs.Loads.{after-yield, after-refuse}
-use Rattle.passes.specs.Comes.{within}
-use Rattle.passes.specs.Kept.{idle-kept, not-over}
-use Rattle.passes.specs.Sound.{SoundWalk, SoundPass, Runs, Begins, dueLines, cutLines, cutRows}
+use Rattle.loads.specs.Loads.{after-yield, after-refuse}
+use Rattle.loads.specs.Comes.{within}
+use Rattle.loads.specs.Kept.{idle-kept, not-over}
+use Rattle.loads.specs.Sound.{SoundWalk, SoundPass, Runs, Begins, dueLines, cutLines, cutRows}
 
 pub pos-up : (v : ℤ) → pos 0 ≤ℤ v → v ≡ pos (up v)
 pos-up (pos n) h = refl

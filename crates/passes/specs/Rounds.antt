@@ -17,7 +17,7 @@ use Rattle.plan.specs.Out.{Out, _>>=_, _>>_, yield, emit}
 use Rattle.plan.specs.Ties.{rows-left}
 use Rattle.plan.specs.Scaled.{drawOf, nextPass, advance, load1cyc, idlePass, drawPass, pass, passes, rowsOf, linesOf, rectOf, afterDraw}
 use Rattle.plan.specs.Laws.{passes-on, passes-end, passes-fuel, pass-same, bind-assoc, more-nil}
-use Rattle.passes.specs.Coming.{passesOf}
+use Rattle.loads.specs.Coming.{passesOf}
 
 -- more fuel changes nothing
 more-fuel : (k n : ℕ) (z : Scaled) (w : Walk) (f c : ℕ) → 16 ≤ z .«frame_rows» → w .«frame_remain» ≡ pos f → w .count ≡ pos c → 1 ≤ n → 64 * f + 1 ≤ n + c / 16 → passes n z w ≡ passes (k + n) z w

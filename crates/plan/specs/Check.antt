@@ -8,7 +8,7 @@ use lib.ListN.{length, take, drop, getD, replicate}
 use lib.IntN.{pos}
 use lib.Signed.{leZ}
 use Rattle.object.specs.Layout.{layout, read, valueOf, decode}
-use Rattle.object.specs.Check.{verdictNumber, scissorBad, objectFaults, copyFaults, objectOf, checkedOf}
+use Rattle.checks.specs.Check.{verdictNumber, scissorBad, objectFaults, copyFaults, objectOf, checkedOf}
 use Rattle.tile.specs.declared.bank.Tile.{Tile}
 use Rattle.tile.specs.Bank.{extent, setTile, setSize}
 use Rattle.tile.specs.Load.{requestOf}

@@ -6,7 +6,7 @@ use Rattle.object.specs.declared.types.ObjBg.{ObjBg}
 use Rattle.object.specs.declared.types.Checked.{Checked}
 use Rattle.object.specs.declared.types.Checked.the-variants as checked
 use Rattle.object.specs.declared.types.Verdict.the-variants as verdict
-use Rattle.object.specs.Check.{checkedOf}
+use Rattle.checks.specs.Check.{checkedOf}
 use Rattle.plan.specs.Request.{Request}
 use Rattle.plan.specs.Out.{Out, Plan, yield, refuse, planOut}
 use Rattle.plan.specs.Copy.{copyOf, copyEmpty, copyPlan}

@@ -22,10 +22,10 @@ use Rattle.copy.specs.declared.types.Stage.the-variants as stage
 use Rattle.copy.specs.Coming.{comingCopy}
 use Rattle.copy.specs.Walk as walk
 use Rattle.copy.specs.Kept.{leftCopy}
-use Rattle.passes.specs.declared.types.Reached.{Reached}
-use Rattle.passes.specs.declared.types.Reached.the-variants as reached
-use Rattle.passes.specs.Coming.{comingScaled}
-use Rattle.passes.specs.Sound.{soundAt, leftAt}
+use Rattle.loads.specs.declared.types.Reached.{Reached}
+use Rattle.loads.specs.declared.types.Reached.the-variants as reached
+use Rattle.loads.specs.Coming.{comingScaled}
+use Rattle.loads.specs.Sound.{soundAt, leftAt}
 use Rattle.words.specs.declared.count.Counts.{Counts}
 use Rattle.words.specs.Counts.{Countable, zeroCounts, countedOf, countedAll, endWith}
 use Rattle.planner.specs.declared.types.Course.{Course}

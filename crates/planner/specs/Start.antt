@@ -10,7 +10,7 @@ use Rattle.object.specs.declared.types.Scissor.{Scissor}
 use Rattle.object.specs.declared.types.Verdict.{Verdict}
 use Rattle.object.specs.declared.types.Verdict.the-variants as verdict
 use Rattle.object.specs.declared.types.Checked.the-variants as checked
-use Rattle.object.specs.Check.{checkedOf}
+use Rattle.checks.specs.Check.{checkedOf}
 use Rattle.plan.specs.declared.types.Scaled.{Scaled}
 use Rattle.plan.specs.declared.types.End.{End}
 use Rattle.plan.specs.Request.{Request}
@@ -29,9 +29,9 @@ use Rattle.copy.specs.declared.types.Due.the-variants as due
 use Rattle.copy.specs.Walk.{startAt, SoundStart}
 use Rattle.copy.specs.Coming.{comingCopy, copy-start}
 use Rattle.copy.specs.Kept.{start-sound, start-left}
-use Rattle.passes.specs.declared.types.Reached.{Reached}
-use Rattle.passes.specs.declared.types.Reached.the-variants as reached
-use Rattle.passes.specs.Sound.{Reaches}
+use Rattle.loads.specs.declared.types.Reached.{Reached}
+use Rattle.loads.specs.declared.types.Reached.the-variants as reached
+use Rattle.loads.specs.Sound.{Reaches}
 use Rattle.words.specs.declared.count.Counts.{Counts}
 use Rattle.words.specs.Counts.{zeroCounts, zero-countable, countedAll, endWith, end-of}
 use Rattle.planner.specs.declared.types.Course.{Course}

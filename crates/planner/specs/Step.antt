@@ -25,13 +25,13 @@ use Rattle.copy.specs.Walk.{copyNextOf}
 use Rattle.copy.specs.Small.{next-in}
 use Rattle.copy.specs.Coming.{comingCopy, copy-follows}
 use Rattle.copy.specs.Kept.{leftCopy, copy-kept}
-use Rattle.passes.specs.declared.types.Stage as scaled
-use Rattle.passes.specs.declared.types.Place as scaled-place
-use Rattle.passes.specs.declared.types.Reached.{Reached}
-use Rattle.passes.specs.declared.types.Reached.the-variants as reached
-use Rattle.passes.specs.declared.types.ScaledNext.the-variants as gave
-use Rattle.passes.specs.Coming.{comingScaled, comingReached}
-use Rattle.passes.specs.Sound.{soundReached, leftAt, leftReached, Gave}
+use Rattle.loads.specs.declared.types.Stage as scaled
+use Rattle.loads.specs.declared.types.Place as scaled-place
+use Rattle.loads.specs.declared.types.Reached.{Reached}
+use Rattle.loads.specs.declared.types.Reached.the-variants as reached
+use Rattle.loads.specs.declared.types.ScaledNext.the-variants as gave
+use Rattle.loads.specs.Coming.{comingScaled, comingReached}
+use Rattle.loads.specs.Sound.{soundReached, leftAt, leftReached, Gave}
 use Rattle.words.specs.declared.count.Counts.{Counts}
 use Rattle.words.specs.Counts.{countedOf, countedAll, endWith, counted-countable, counted-entries}
 use Rattle.planner.specs.declared.types.Course.{Course}

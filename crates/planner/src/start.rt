@@ -1,23 +1,23 @@
 // The planner of a request: the checks, the set-up of its mode, and where its plan starts.
-ghost use Rattle.object.specs.Range.{PassedCopy, PassedScaled};
+ghost use Rattle.checks.specs.Known.{PassedCopy, PassedScaled};
 ghost use Rattle.planner.specs.Coming.{Fresh, StartsCopy, StartsScaled};
 use crate::types::Course;
 use crate::types::Planner;
 use copy::Due;
 use copy::Stage;
+use loads::Reached;
 use object::Checked;
 use object::ObjBg;
 use object::Scissor;
 use object::Verdict;
-use passes::Reached;
 use words::Counts;
 
 fn copy_course(bg: ObjBg, scissor: Scissor, address: u64) -> Course
     requires { ⌜ PassedCopy bg scissor ⌝ }
     ensures { λ r. ⌜ StartsCopy bg scissor address r ⌝ }
 {
-    let c = copy::copy_of(bg, scissor, address);
-    if copy::copy_empty(c) {
+    let c = strips::copy_of(bg, scissor, address);
+    if strips::copy_empty(c) {
         return Course::Over(Verdict::Finished);
     }
     Course::Copy(Stage::Strip(Due::Image), copy::copy_start(c))
@@ -46,7 +46,7 @@ fn scaled_course(bg: ObjBg, scissor: Scissor, mode: u32, address: u64) -> Course
 pub fn fresh(object: &[u8], opcode: u8, scissor: Scissor, mode: u32, address: u64) -> Planner
     ensures { λ r. ⌜ Fresh (now (object .entry)) opcode scissor mode address r ⌝ }
 {
-    let course = match object::checked(object, opcode, scissor) {
+    let course = match checks::checked(object, opcode, scissor) {
         Checked::Copy(bg) => copy_course(bg, scissor, address),
         Checked::Scaled(bg) => scaled_course(bg, scissor, mode, address),
         Checked::Refused(v) => Course::Over(v),

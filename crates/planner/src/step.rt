@@ -9,9 +9,9 @@ use crate::types::Planner;
 use crate::types::Step;
 use crate::types::Stepped;
 use copy::CopyNext;
+use loads::Reached;
+use loads::ScaledNext;
 use object::Verdict;
-use passes::Reached;
-use passes::ScaledNext;
 use plan::Answer;
 use plan::Entry;
 use tile::Bank;
@@ -72,7 +72,7 @@ fn copy_step(stage: copy::Stage, place: copy::Place, n: Counts) -> Step
     }
 }
 
-fn scaled_step(stage: passes::Stage, place: passes::Place, n: Counts) -> Step
+fn scaled_step(stage: loads::Stage, place: loads::Place, n: Counts) -> Step
     requires { ⌜ Sound (record { course = Course.Scaled stage place; counts = n }) ⌝ }
     ensures { λ r. ⌜ StepGives (record { course = Course.Scaled stage place; counts = n }) r ⌝ }
 {

@@ -9,14 +9,14 @@ use words::Counts;
 // Where a plan stands: in a copy plan, in a scaled plan, or at its end.
 pub enum Course {
     Copy(copy::Stage, copy::Place),
-    Scaled(passes::Stage, passes::Place),
+    Scaled(loads::Stage, loads::Place),
     Over(Verdict),
 }
 
-// Made by `fresh` and `step` alone, so that every planner is sound.
+// A planner is stepped where it is proved sound, as those of `fresh` and `step` are.
 pub struct Planner {
-    pub(crate) course: Course,
-    pub(crate) counts: Counts,
+    pub course: Course,
+    pub counts: Counts,
 }
 
 // What a step gives: an entry, or the end. A load that is refused has set its tile's size, which is no entry, before the end.

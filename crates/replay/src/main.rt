@@ -22,7 +22,7 @@ fn number(n: u64) {
 
 fn print_end(end: End) {
     let verdict = end.verdict;
-    number(object::number(verdict));
+    number(checks::number(verdict));
     number(end.entries);
     number(end.rectangles);
     number(end.words);

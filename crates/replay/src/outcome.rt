@@ -18,7 +18,7 @@ pub struct Outcome {
 pub(crate) fn run_into(object: &[u8], q: Request, bank: &mut [u64], plan: &mut [u64]) -> Outcome
     ensures { λ r. ⌜ r ≡ outcomeOf (planOf (withBytes (now (object .entry)) q)) (length (now (plan .entry))) (now (bank .entry)) ⌝ }
 {
-    let end = planner::run(
+    let end = runs::run(
         object,
         q.opcode,
         q.scissor,

@@ -2,7 +2,7 @@
 ghost use mathlib.Core.Path.{_≡_};
 ghost use lib.ListN.{length};
 ghost use Rattle.plan.specs.Whole.{planOf};
-ghost use Rattle.words.specs.Host.{bankFrom};
+ghost use Rattle.settling.specs.Host.{bankFrom};
 ghost use Rattle.request.specs.Host.{withBytes};
 ghost use Rattle.replay.specs.Steps.{replayedOf};
 use crate::bank::bank_from;
@@ -41,7 +41,7 @@ pub(crate) fn run_and_step(
     let bank = bank_from(&stored);
     let mut words = words_of(bank);
     let run = run_into(object, q, &mut words, &mut *plan);
-    let end = planner::count(object, q.opcode, q.scissor, q.mode, q.address);
+    let end = runs::count(object, q.opcode, q.scissor, q.mode, q.address);
     let steps = stepped(object, q, bank);
     let mixed = if ((chunk.len() / 11) as u64) < end.entries {
         Mixed::Cut(mixed(object, q, &stored, &mut *chunk))

@@ -3,7 +3,7 @@ ghost use mathlib.Core.Path.{_≡_};
 ghost use Prim.Native.Nat.{_/_, _≤_, _<_};
 ghost use lib.ListN.{length};
 ghost use Rattle.plan.specs.Whole.{planOf};
-ghost use Rattle.words.specs.Host.{bankFrom};
+ghost use Rattle.settling.specs.Host.{bankFrom};
 ghost use Rattle.digest.specs.Fnv.{digestFrom};
 ghost use Rattle.planner.specs.Coming.{Sound, coming};
 ghost use Rattle.request.specs.Host.{withBytes};
@@ -35,7 +35,7 @@ fn answer_into(hash: u64, a: Answer) -> u64
         Answer::End(end) => {
             let verdict = end.verdict;
             let numbers = [
-                object::number(verdict),
+                checks::number(verdict),
                 end.entries,
                 end.rectangles,
                 end.words,
@@ -104,7 +104,7 @@ pub(crate) fn mixed(object: &[u8], q: Request, stored: &[u64], chunk: &mut [u64]
     ensures { λ r. ⌜ r ≡ steppedOf (planOf (withBytes (now (object .entry)) q)) (bankFrom (now (stored .entry))) ⌝ }
 {
     let mut words = words_of(bank_from(stored));
-    let end = planner::run(
+    let end = runs::run(
         object,
         q.opcode,
         q.scissor,

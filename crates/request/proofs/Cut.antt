@@ -14,7 +14,7 @@ use Rattle.signed.specs.Bound.{or-false}
 use Rattle.object.specs.declared.types.Scissor.{Scissor}
 use Rattle.object.specs.declared.types.Verdict.the-variants as verdict
 use Rattle.object.specs.declared.types.Checked.the-variants as checked
-use Rattle.object.specs.Check.{opcodeBad, edgeBad, scissorBad, refusedBy, short, checkedOf}
+use Rattle.checks.specs.Check.{opcodeBad, edgeBad, scissorBad, refusedBy, short, checkedOf}
 use Rattle.plan.specs.Request as plan
 use Rattle.plan.specs.Out.{planOut, refuse}
 use Rattle.plan.specs.Whole.{checkedOut, planWith, planOf}

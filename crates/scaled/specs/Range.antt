@@ -13,7 +13,8 @@ use Rattle.object.specs.declared.types.ObjBg.{ObjBg}
 use Rattle.object.specs.declared.types.Quarters.{Quarters}
 use Rattle.object.specs.declared.types.Scissor.{Scissor}
 use Rattle.object.specs.Measure.{quarters, thirtySeconds, edge, inImage}
-use Rattle.object.specs.Range.{Below, InRange, PassedScaled}
+use Rattle.object.specs.Range.{Below}
+use Rattle.checks.specs.Known.{InRange, PassedScaled}
 use Rattle.plan.specs.declared.types.Clip.{Clip}
 use Rattle.plan.specs.declared.types.Start.{Start}
 use Rattle.plan.specs.declared.types.Scaled.{Scaled}

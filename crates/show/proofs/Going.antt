@@ -18,11 +18,11 @@ use Rattle.planner.specs.declared.types.Step.{Step}
 use Rattle.planner.specs.Coming.{coming, answerIn, Sound, StepGives}
 use Rattle.planner.specs.Step.{gave-entry, gave-rest, gave-end}
 use Rattle.show.specs.declared.text.Chunk as code
-use Rattle.show.specs.Text.{entryText, endText}
-use Rattle.show.specs.Lines.{withText, PutIs}
+use Rattle.lines.specs.Text.{entryText, endText}
+use Rattle.lines.specs.Lines.{withText, PutIs}
 use Rattle.show.specs.Chunk.{Chunk, nothing, andThen, chunkOf, chunk, ChunkIs}
-use Rattle.show.proofs.Texts.{with-nil, with-after}
-use Rattle.show.proofs.Rows.{entry-most}
+use Rattle.lines.proofs.Texts.{with-nil, with-after}
+use Rattle.lines.proofs.Rows.{entry-most}
 
 abbrev to-come : List Entry → List Entry → End → Coming
 to-come es left e = record { entries = es; left = left; end = e }

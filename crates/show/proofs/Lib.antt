@@ -1,5 +1,2 @@
--- Texts put at places, columns and rows of them.
-pub mod Texts
-pub mod Columns
-pub mod Rows
+-- Lines that follow one another.
 pub mod Going

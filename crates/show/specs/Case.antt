@@ -16,7 +16,7 @@ use Rattle.plan.specs.Steps.{comingOf}
 use Rattle.plan.specs.Whole.{planOf}
 use Rattle.planner.specs.declared.types.Planner.{Planner}
 use Rattle.planner.specs.Coming.{coming, Sound}
-use Rattle.show.specs.Text.{endText, entriesText, planText}
+use Rattle.lines.specs.Text.{endText, entriesText, planText}
 
 -- D "Program `bgplan` reads 61 bytes"; "Fewer bytes print one end line with verdict 2"
 unfoldable pub casePlan : List ℕ → Plan

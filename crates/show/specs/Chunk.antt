@@ -11,7 +11,7 @@ use Rattle.plan.specs.declared.types.End.{End}
 use Rattle.plan.specs.Steps.{Coming, nextOf}
 use Rattle.planner.specs.Coming.{coming, Sound}
 use Rattle.show.specs.declared.text.Chunk as code
-use Rattle.show.specs.Text.{entryText, endText}
+use Rattle.lines.specs.Text.{entryText, endText}
 
 -- the bytes written, what is left to come, and whether the end's line is written
 pub record Chunk : Type 0 where

@@ -18,7 +18,7 @@ use Rattle.plan.specs.Whole.{planOf}
 use Rattle.planner.specs.declared.types.Planner.{Planner}
 use Rattle.planner.specs.Coming.{coming, Fresh, requestOf}
 use Rattle.show.specs.declared.text.Chunk as code
-use Rattle.show.specs.Text.{entryText, endText, entriesText, planText}
+use Rattle.lines.specs.Text.{entryText, endText, entriesText, planText}
 use Rattle.show.specs.Chunk.{Chunk, nothing, andThen, chunkOf, chunk, ChunkIs}
 use Rattle.show.specs.Case.{casePlan, CaseIs}
 

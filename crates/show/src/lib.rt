@@ -1,7 +1,5 @@
-// The text of a plan: a line of right-justified columns for each entry, and one for the end, written into bytes that the caller lends.
+// The text of a plan, in pieces that fill the bytes that the caller lends; the planner of a case.
 mod case;
-mod column;
-mod line;
 mod text;
 
 pub use case::case_planner;

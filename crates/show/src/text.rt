@@ -1,8 +1,8 @@
 // A plan's text, in pieces that the caller's bytes have room for.
 ghost use Rattle.planner.specs.Coming.{Sound, coming};
 ghost use Rattle.show.specs.Chunk.{ChunkIs};
-use crate::line::end_line;
-use crate::line::entry_line;
+use lines::end_line;
+use lines::entry_line;
 use planner::Given;
 use planner::Planner;
 

@@ -5,7 +5,7 @@ ghost use lib.ListN.{length};
 ghost use lib.Seq.{paste};
 
 // All of `from`, at a place of `to`.
-pub(crate) fn put(to: &mut [u64], at: usize, from: &[u64])
+pub fn put(to: &mut [u64], at: usize, from: &[u64])
     requires { ⌜ at + length (now from) ≤ length (now to) ⌝ }
     ensures { λ _. ⌜ now (to .exit) ≡ paste (now (to .entry)) at (now (from .entry)) (length (now (from .entry))) ⌝ }
 {
@@ -17,7 +17,7 @@ pub(crate) fn put(to: &mut [u64], at: usize, from: &[u64])
 }
 
 // Eleven words.
-pub(crate) fn store(plan: &mut [u64], at: usize, words: [u64; 11])
+pub fn store(plan: &mut [u64], at: usize, words: [u64; 11])
     requires { ⌜ at + 11 ≤ length (now plan) ⌝ }
     ensures { λ _. ⌜ now (plan .exit) ≡ paste (now (plan .entry)) at words 11 ⌝ }
 {

@@ -11,13 +11,13 @@ use tile::tile_set;
 
 // The words of each kind: its number, what it gives, signed numbers modulo 2^64, then zeros.
 
-pub(crate) fn image_words(fmt: u64, siz: u64, width: u64, address: u64) -> [u64; 11]
+pub fn image_words(fmt: u64, siz: u64, width: u64, address: u64) -> [u64; 11]
     ensures { λ r. ⌜ r ≡ entryWords (Entry.Image fmt siz width address) ⌝ }
 {
     [1, fmt, siz, width, address, 0, 0, 0, 0, 0, 0]
 }
 
-pub(crate) fn tile_words(
+pub fn tile_words(
     index: u64,
     fmt: u64,
     siz: u64,
@@ -46,13 +46,13 @@ pub(crate) fn tile_words(
     ]
 }
 
-pub(crate) fn size_words(index: u64, uls: u64, ult: u64, lrs: u64, lrt: u64) -> [u64; 11]
+pub fn size_words(index: u64, uls: u64, ult: u64, lrs: u64, lrt: u64) -> [u64; 11]
     ensures { λ r. ⌜ r ≡ entryWords (Entry.Size index uls ult lrs lrt) ⌝ }
 {
     [3, index, uls, ult, lrs, lrt, 0, 0, 0, 0, 0]
 }
 
-pub(crate) fn load_words(
+pub fn load_words(
     index: u64,
     uls: u64,
     ult: u64,
@@ -81,7 +81,7 @@ pub(crate) fn load_words(
     ]
 }
 
-pub(crate) fn rect_words(
+pub fn rect_words(
     tile: u64,
     ulx: u64,
     uly: u64,

@@ -1,20 +1,17 @@
-// What an entry does to the plan's words, the bank and the counts; an end as words for hosts.
-mod bank;
+// An entry as eleven words, what it adds to the counts, and what it does to a bank.
 mod buffer;
 mod count;
 mod entry;
-mod giving;
-mod host;
 
-pub use bank::set_words;
-pub use bank::settle;
+pub use buffer::put;
+pub use buffer::store;
 pub use count::Counts;
 pub use count::counted;
 pub use count::end_of;
 pub use entry::bank_after;
 pub use entry::entry_words;
-pub use giving::Gave;
-pub use giving::Places;
-pub use giving::give;
-pub use giving::no_places;
-pub use host::end_into;
+pub use entry::image_words;
+pub use entry::load_words;
+pub use entry::rect_words;
+pub use entry::size_words;
+pub use entry::tile_words;

@@ -6,7 +6,7 @@ use Rattle.tile.specs.declared.load.LoadRequest.{LoadRequest}
 use Rattle.tile.specs.Load.{requestOf}
 use Rattle.plan.specs.Load.{loadTile, loadOut}
 use Rattle.plan.specs.Scaled.{lrsOf, lrtOf, sizeOf, fieldOf}
-use Rattle.passes.specs.Comes.{read-in}
+use Rattle.loads.specs.Comes.{read-in}
 use Rattle.passes.proofs.step.load.Statement.{statement}
 use Rattle.passes.proofs.step.load.Tie as tie
 

@@ -7,7 +7,7 @@ use lib.IntN.{pos, _-ℤ_, _*ℤ_}
 use mir.Syntax.{w64}
 use mir.Val.{toZ, ofZ}
 use Rattle.signed.specs.Word.{rd}
-use Rattle.passes.specs.Comes.{fits, less-in, times-in, wider}
+use Rattle.loads.specs.Comes.{fits, less-in, times-in, wider}
 use Rattle.passes.proofs.step.lower.Statement.{statement}
 use Rattle.passes.proofs.step.lower.Tie as tie
 

@@ -1,9 +1,9 @@
 -- `passes::step::scaled_next` meets its contract: each stage has its law. Assumes nothing.
 use mathlib.Core.Path.{_≡_, sym, ap, subst, _∙_}
 use mathlib.Core.Logic.{⊎-elim}
-use Rattle.passes.specs.declared.types.Stage.{Stage}
-use Rattle.passes.specs.Coming.{stageOf, comingScaled}
-use Rattle.passes.specs.Sound.{soundAt, leftAt, Gave}
+use Rattle.loads.specs.declared.types.Stage.{Stage}
+use Rattle.loads.specs.Coming.{stageOf, comingScaled}
+use Rattle.loads.specs.Sound.{soundAt, leftAt, Gave}
 use Rattle.passes.specs.Given.{give-first, give-second, give-whole, give-tile, give-image}
 use Rattle.signed.specs.Word.{rk}
 use borrow.Author.Needs.{needs}

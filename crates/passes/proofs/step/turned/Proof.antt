@@ -1,6 +1,6 @@
 -- `passes::step::turned` meets its contract: the part that comes is chosen in the pass that has begun, or the plan has ended. Assumes nothing.
 use borrow.Author.Needs.{needs}
-use Rattle.passes.specs.Enter.{reaches-as, ended-as}
+use Rattle.loads.specs.Enter.{reaches-as, ended-as}
 use Rattle.passes.proofs.step.turned.Statement.{statement}
 use Rattle.passes.proofs.step.turned.Tie as tie
 

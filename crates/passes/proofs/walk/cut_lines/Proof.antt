@@ -6,7 +6,7 @@ use lib.IntN.{ℤ, pos, _+ℤ_}
 use Rattle.signed.specs.Word.{rd, rk}
 use native.Mathlib.Omega.{arith}
 use Rattle.signed.specs.Diff.{up, zdiff, zarith}
-use Rattle.passes.specs.Comes.{wider}
+use Rattle.loads.specs.Comes.{wider}
 use Rattle.passes.proofs.walk.cut_lines.Statement.{statement}
 use Rattle.passes.proofs.walk.cut_lines.Tie as tie
 

@@ -8,7 +8,7 @@ use mir.Val.{toZ, ofZ}
 use Rattle.signed.specs.Word.{rd, rdn, rk}
 use Rattle.signed.specs.Floor.{floorDiv}
 use Rattle.object.specs.Range.{Within}
-use Rattle.passes.specs.Comes.{wider, times-in, floor-in, sum-in}
+use Rattle.loads.specs.Comes.{wider, times-in, floor-in, sum-in}
 use Rattle.passes.proofs.walk.cut_rows.Statement.{statement}
 use Rattle.passes.proofs.walk.cut_rows.Tie as tie
 

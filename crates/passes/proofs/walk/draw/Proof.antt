@@ -7,8 +7,8 @@ use Rattle.signed.specs.Word.{rk}
 use native.Mathlib.Omega.{arith}
 use Rattle.object.specs.Range.{Within}
 use Rattle.plan.specs.Scaled.{drawOf, leftAfter, linesOf, rowsOf}
-use Rattle.passes.specs.Comes.{wider, read-in, less-in}
-use Rattle.passes.specs.Kept.{slice-in}
+use Rattle.loads.specs.Comes.{wider, read-in, less-in}
+use Rattle.loads.specs.Kept.{slice-in}
 use Rattle.passes.specs.Going.{count-in, lines-in, due-low, draw-begins}
 use Rattle.passes.proofs.walk.draw.Statement.{statement}
 use Rattle.passes.proofs.walk.draw.Tie as tie

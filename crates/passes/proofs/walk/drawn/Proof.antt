@@ -10,7 +10,7 @@ use Rattle.signed.specs.Diff.{zarith}
 use Rattle.signed.specs.Floor.{modulo, modulo-lt}
 use Prim.Native.Nat.{_<_}
 use Rattle.plan.specs.Scaled.{drawOf, leftAfter}
-use Rattle.passes.specs.Comes.{wider, read-in}
+use Rattle.loads.specs.Comes.{wider, read-in}
 use Rattle.passes.specs.Going.{count-in, remain-line, lines-low}
 use Rattle.passes.proofs.walk.drawn.Statement.{statement}
 use Rattle.passes.proofs.walk.drawn.Tie as tie

@@ -14,11 +14,11 @@ use Rattle.object.specs.declared.types.Verdict.the-variants as verdict
 use Rattle.plan.specs.declared.types.Scaled.{Scaled}
 use Rattle.plan.specs.declared.types.Walk.{Walk}
 use Rattle.plan.specs.Scaled.{advance, drawOf, nextPass}
-use Rattle.passes.specs.declared.types.Begun.the-variants as begun
-use Rattle.passes.specs.Comes.{wider, read-in}
-use Rattle.passes.specs.Kept.{remain-in, slice-in}
+use Rattle.loads.specs.declared.types.Begun.the-variants as begun
+use Rattle.loads.specs.Comes.{wider, read-in}
+use Rattle.loads.specs.Kept.{remain-in, slice-in}
 use Rattle.passes.specs.Going.{Gone, gone-start, gone-idle, gone-low, gone-draw, gone-refused, count-in, lines-in}
-use Rattle.passes.specs.Sound.{Runs}
+use Rattle.loads.specs.Sound.{Runs}
 use Rattle.passes.proofs.walk.running.Statement.{statement}
 use Rattle.passes.proofs.walk.running.Tie as tie
 

@@ -4,7 +4,7 @@ use mathlib.Core.Path.{_≡_, sym, _∙_}
 use Prim.Native.Nat.{_≤_}
 use Rattle.signed.specs.Diff.{zarith}
 use Rattle.object.specs.Measure.{quarters}
-use Rattle.passes.specs.declared.types.Reached.{Reached}
+use Rattle.loads.specs.declared.types.Reached.{Reached}
 use Rattle.scaled.specs.Range.{usable, near}
 use Rattle.planner.specs.Coming.{StartsScaled, courseOf}
 use Rattle.planner.specs.Start.{scaled-none, scaled-bad, scaled-begins}

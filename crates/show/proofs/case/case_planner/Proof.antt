@@ -3,7 +3,7 @@ use mathlib.Core.Path.{sym, ap, _∙_}
 use native.Mathlib.Omega.{arith}
 use lib.Seq.{length-take-le}
 use borrow.Author.Needs.{needs}
-use Rattle.object.specs.Check.{checkedOf}
+use Rattle.checks.specs.Check.{checkedOf}
 use Rattle.plan.specs.Request.{Request}
 use Rattle.plan.specs.Steps.{comingOf}
 use Rattle.plan.specs.Whole.{planOf, checkedOut}

@@ -1,0 +1,3 @@
+-- The count beside the walk, and columns that wrap.
+pub mod Counting
+pub mod Wrap

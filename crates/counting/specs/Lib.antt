@@ -1,0 +1,2 @@
+-- What the count of a copy plan computes with.
+pub mod Count

@@ -1,0 +1,4 @@
+-- Texts put at places, columns and rows of them.
+pub mod Texts
+pub mod Columns
+pub mod Rows

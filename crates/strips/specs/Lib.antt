@@ -1,0 +1,3 @@
+-- The set-up of a copy plan, and one strip.
+pub mod Frame
+pub mod Strip
