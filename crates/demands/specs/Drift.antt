@@ -18,7 +18,7 @@ use Rattle.plan.specs.Demand.{driftOf, stripsOf, AllNear, Apt}
 use Rattle.drift.specs.Prefix.{entriesIn, given-is, first-near}
 use Rattle.drift.specs.Words.{rectsFrom, run-near}
 use Rattle.planner.specs.declared.types.Planner.{Planner}
-use Rattle.settling.specs.Host.{endNumbers, runWords, run-end, run-buffer}
+use Rattle.giving.specs.Host.{endNumbers, runWords, run-end, run-buffer}
 use Rattle.planner.specs.Coming.{Fresh, requestOf}
 use Rattle.runs.specs.Ran.{RanIs}
 use Rattle.request.specs.Host.{hostRequest}

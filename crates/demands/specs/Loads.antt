@@ -36,7 +36,7 @@ use Rattle.plan.specs.Scaled.{sizeOf, firstPass, passes, clipOf, scaledEmpty, s
 use Rattle.plan.specs.Whole.{copyOut, scaledOut, checkedOut, planWith, planOf}
 use Rattle.plan.specs.Run.{bankStep, wordsFrom, tileWords}
 use Rattle.plan.specs.Laws.{entriesOut, columns-on, columns-end, rows-on, rows-end}
-use Rattle.settling.specs.Host.{eight-still}
+use Rattle.giving.specs.Host.{eight-still}
 
 -- each load stands after a setting of tile 7; `done` says that there was one before the list
 abbrev pub LoadsAfter : (done : Bool) → List Entry → Type 0

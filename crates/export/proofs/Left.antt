@@ -10,7 +10,7 @@ use Rattle.plan.specs.Whole.{planOf}
 use Rattle.plan.specs.Run.{endOf}
 use Rattle.planner.specs.Coming.{requestOf}
 use Rattle.runs.specs.Ran.{RanIs}
-use Rattle.settling.specs.Host.{runWords, endNumbers}
+use Rattle.giving.specs.Host.{runWords, endNumbers}
 use Rattle.request.specs.declared.types.Request.{Request}
 use Rattle.request.specs.Host.{withBytes, hostRequest}
 use Rattle.export.specs.Host.{left, ranLeft, hostRun, counted, hostCount}

@@ -7,7 +7,7 @@ use lib.Dec.{eqb}
 use lib.ListN.{length}
 use Rattle.plan.specs.Whole.{planOf}
 use Rattle.plan.specs.Run.{endOf}
-use Rattle.settling.specs.Host.{RanWords, runWords, endNumbers}
+use Rattle.giving.specs.Host.{RanWords, runWords, endNumbers}
 use Rattle.request.specs.Host.{hostRequest}
 
 -- the answer, and the words of bank, plan and end as the call leaves them

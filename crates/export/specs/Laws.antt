@@ -11,7 +11,7 @@ use Rattle.tile.specs.declared.bank.Bank.{Bank}
 use Rattle.plan.specs.Out.{Plan}
 use Rattle.plan.specs.Whole.{planOf}
 use Rattle.plan.specs.Run.{runOf}
-use Rattle.settling.specs.Host.{runWords, bankNumbers, endNumbers, run-end, run-bank, run-buffer, nothing-written}
+use Rattle.giving.specs.Host.{runWords, bankNumbers, endNumbers, run-end, run-bank, run-buffer, nothing-written}
 use Rattle.request.specs.Host.{hostRequest}
 use Rattle.export.specs.Host.{left, ranLeft, hostRun}
 

@@ -102,7 +102,7 @@ pub fn of_rows(n: i64) -> ThirtySeconds
 pub fn whole_rows(t: ThirtySeconds) -> i64
     ensures { λ r. ⌜ r ≡ wholeRows (t .0) ⌝ }
 {
-    signed::rows5(t.0)
+    masks::rows5(t.0)
 }
 
 // A width in the image's measure.
@@ -169,12 +169,12 @@ pub fn whole(n: u64) -> u64
 pub fn signed_whole(n: i64) -> i64
     ensures { λ r. ⌜ r ≡ whole n ⌝ }
 {
-    signed::shift10(n)
+    masks::shift10(n)
 }
 
 // What a number of 1,024ths of a row has over whole rows.
 pub fn row_part(n: u64) -> ThirtySeconds
     ensures { λ r. ⌜ r ≡ rowPart (pos n) ⌝ }
 {
-    of_thirty_seconds(signed::low5(n >> 5))
+    of_thirty_seconds(masks::low5(n >> 5))
 }

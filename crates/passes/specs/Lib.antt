@@ -1,3 +1,2 @@
-pub mod Rounds
-pub mod Going
+-- What each stage of a scaled plan gives.
 pub mod Given

@@ -1,6 +1,5 @@
-// The walk of a scaled plan: its passes, and one step.
+// A scaled plan entry by entry: where it starts, and what comes next.
 mod step;
-mod walk;
 
 pub use step::scaled_next;
 pub use step::scaled_start;

@@ -12,8 +12,6 @@ ghost use Rattle.plan.specs.Sound.{SoundScaled, SoundFirst};
 ghost use Rattle.plan.specs.Scaled.{tile7 as tile7Of, lrsOf, lrtOf, rectOf, scaledPlan};
 ghost use Rattle.loads.specs.Coming.{tile0 as tile0Of, imageOf, rowsOut, dueEntry, dueWalk, dueStage, stageOf, turnOut, afterTurn, comingScaled};
 ghost use Rattle.loads.specs.Sound.{SoundPass, SoundPart, ClipIn, soundAt, leftAt, leftTurn, Reaches, Begins, Gave, loadedOut};
-use crate::walk::drawn;
-use crate::walk::next_pass;
 use loads::Begun;
 use loads::Due;
 use loads::Loaded;
@@ -39,6 +37,8 @@ use plan::Scaled;
 use plan::Source;
 use plan::Walk;
 use tile::LoadRequest;
+use walks::drawn;
+use walks::next_pass;
 
 // The loads' texels are of 16 bits, or of 32 for siz 3.
 fn load_size(siz: u64) -> u64

@@ -1,4 +1,3 @@
 -- What a planner has still to come, and what its steps promise.
 pub mod Coming
 pub mod Step
-pub mod Start

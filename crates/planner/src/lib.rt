@@ -1,9 +1,7 @@
-// The planner: made from any request, it hands out one entry a step.
-mod start;
+// The planner: it hands out one entry a step.
 mod step;
 mod types;
 
-pub use start::fresh;
 pub use types::Course;
 pub use types::Given;
 pub use types::Planner;

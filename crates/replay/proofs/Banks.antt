@@ -20,7 +20,7 @@ use Rattle.plan.specs.declared.types.Entry.the-variants as entry
 use Rattle.plan.specs.Check.{tileNumbers, tilesNumbers}
 use Rattle.plan.specs.Run.{descriptor, bankStep, bankAfter}
 use Rattle.plan.specs.Sound.{Narrow}
-use Rattle.settling.specs.Host.{tileFrom, tilesFrom, bankFrom, bankNumbers, seventeen, each-seventeen}
+use Rattle.giving.specs.Host.{tileFrom, tilesFrom, bankFrom, bankNumbers, seventeen, each-seventeen}
 use Rattle.replay.specs.Passed.{AllNarrow}
 
 -- ---- words into a bank

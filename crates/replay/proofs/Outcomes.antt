@@ -21,7 +21,7 @@ use Rattle.plan.specs.Whole.{planOf}
 use Rattle.request.specs.declared.types.Request.{Request}
 use Rattle.request.specs.Host.{withBytes}
 use Rattle.words.specs.Eleven.{eleven-each}
-use Rattle.settling.specs.Host.{runWords}
+use Rattle.giving.specs.Host.{runWords}
 use Rattle.digest.specs.Fnv.{digestOf}
 use Rattle.replay.specs.declared.record.Replayed.{Replayed}
 use Rattle.replay.specs.Outcome.{outcomeOf, wordsIn}

@@ -19,7 +19,7 @@ use Rattle.plan.specs.Out.{Plan}
 use Rattle.plan.specs.Run.{entryWords, planWords, bankStep, bankAfter, endOf, cutAt}
 use Rattle.plan.specs.Sound.{Narrow}
 use Rattle.plan.specs.Steps.{Coming, comingOf, answers, bankTo, nextOf, answerOf, bankNext}
-use Rattle.settling.specs.Host.{bankNumbers, bankFrom, wordsAfter, words-after, runWords}
+use Rattle.giving.specs.Host.{bankNumbers, bankFrom, wordsAfter, words-after, runWords}
 use Rattle.digest.specs.Fnv.{basis, digestFrom, digestOf, wordInto}
 use Rattle.planner.specs.declared.types.Planner.{Planner}
 use Rattle.planner.specs.declared.types.Step.{Step}

@@ -5,7 +5,7 @@ use Prim.Native.Nat.{ℕ, zero, suc, _*_}
 use Rattle.object.specs.Layout.{read}
 use Rattle.plan.specs.Out.{Plan}
 use Rattle.plan.specs.Run.{planWords, endOf, cutAt}
-use Rattle.settling.specs.Host.{wordsAfter}
+use Rattle.giving.specs.Host.{wordsAfter}
 use Rattle.digest.specs.Fnv.{digestOf}
 use Rattle.replay.specs.declared.outcome.Outcome.{Outcome}
 

@@ -12,7 +12,7 @@ use Rattle.plan.specs.declared.types.Answer.the-variants as answer
 use Rattle.plan.specs.Out.{Plan}
 use Rattle.plan.specs.Run.{entryWords, endOf}
 use Rattle.plan.specs.Steps.{Coming, comingOf, answers, bankTo}
-use Rattle.settling.specs.Host.{bankNumbers, endNumbers}
+use Rattle.giving.specs.Host.{bankNumbers, endNumbers}
 use Rattle.digest.specs.Fnv.{basis, digestFrom, digestOf}
 use Rattle.replay.specs.declared.steps.Digests.{Digests}
 use Rattle.replay.specs.declared.record.Mixed.{Mixed}

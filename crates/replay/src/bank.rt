@@ -3,7 +3,7 @@ ghost use mathlib.Core.Path.{_≡_};
 ghost use Prim.Native.Nat.{_+_, _≤_, _<_};
 ghost use lib.ListN.{length, drop};
 ghost use Rattle.plan.specs.Check.{tileNumbers};
-ghost use Rattle.settling.specs.Host.{bankFrom, bankNumbers, byteAt, halfAt, tileFrom};
+ghost use Rattle.giving.specs.Host.{bankFrom, bankNumbers, byteAt, halfAt, tileFrom};
 use tile::Bank;
 use tile::Tile;
 

@@ -6,7 +6,7 @@ ghost use Rattle.object.specs.Layout.{Held, read};
 ghost use Rattle.plan.specs.Check.{requestAt};
 ghost use Rattle.plan.specs.Whole.{planOf};
 ghost use Rattle.request.specs.Host.{withBytes};
-ghost use Rattle.settling.specs.Host.{bankFrom};
+ghost use Rattle.giving.specs.Host.{bankFrom};
 ghost use Rattle.replay.specs.Outcome.{wordsIn};
 ghost use Rattle.replay.specs.Steps.{replayedOf};
 use crate::record::Replayed;

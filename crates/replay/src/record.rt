@@ -2,7 +2,7 @@
 ghost use mathlib.Core.Path.{_≡_};
 ghost use lib.ListN.{length};
 ghost use Rattle.plan.specs.Whole.{planOf};
-ghost use Rattle.settling.specs.Host.{bankFrom};
+ghost use Rattle.giving.specs.Host.{bankFrom};
 ghost use Rattle.request.specs.Host.{withBytes};
 ghost use Rattle.replay.specs.Steps.{replayedOf};
 use crate::bank::bank_from;

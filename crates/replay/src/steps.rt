@@ -3,7 +3,7 @@ ghost use mathlib.Core.Path.{_≡_};
 ghost use Prim.Native.Nat.{_/_, _≤_, _<_};
 ghost use lib.ListN.{length};
 ghost use Rattle.plan.specs.Whole.{planOf};
-ghost use Rattle.settling.specs.Host.{bankFrom};
+ghost use Rattle.giving.specs.Host.{bankFrom};
 ghost use Rattle.digest.specs.Fnv.{digestFrom};
 ghost use Rattle.planner.specs.Coming.{Sound, coming};
 ghost use Rattle.request.specs.Host.{withBytes};
@@ -79,7 +79,7 @@ fn steps_from(start: Planner, bank: Bank, before: u64) -> Digests
 pub(crate) fn stepped(object: &[u8], q: Request, bank: Bank) -> Digests
     ensures { λ r. ⌜ r ≡ steppedOf (planOf (withBytes (now (object .entry)) q)) bank ⌝ }
 {
-    let p = planner::fresh(object, q.opcode, q.scissor, q.mode, q.address);
+    let p = starts::fresh(object, q.opcode, q.scissor, q.mode, q.address);
     steps_from(p, bank, BASIS)
 }
 
@@ -115,7 +115,7 @@ pub(crate) fn mixed(object: &[u8], q: Request, stored: &[u64], chunk: &mut [u64]
     );
     let n = 11 * end.entries as usize;
     let before = digest(&chunk[..n]);
-    let p = planner::fresh(object, q.opcode, q.scissor, q.mode, q.address);
+    let p = starts::fresh(object, q.opcode, q.scissor, q.mode, q.address);
     let rest = pass_over(p, end.entries);
     steps_from(rest, bank_from(&words), before)
 }

@@ -21,12 +21,12 @@ use Rattle.plan.specs.Run.{entryWords, planWords, endOf, cutAt, runOf}
 use Rattle.plan.specs.Sound.{EntryIn}
 use Rattle.plan.specs.Steps.{Coming, comingOf}
 use Rattle.words.specs.declared.count.Counts.{Counts}
-use Rattle.settling.specs.declared.giving.Places.{Places}
+use Rattle.giving.specs.declared.giving.Places.{Places}
 use Rattle.words.specs.Counts.{zeroCounts, countedOf, countedAll, endWith, counted-entries, end-of}
 use Rattle.words.specs.Eleven.{eleven, eleven-each, words-append}
-use Rattle.settling.specs.Host.{bankNumbers, wordsAfter, after-append, runWords, run-end, run-bank, run-buffer}
-use Rattle.settling.specs.Places.{noPlaces, placedOf, settledOf, PlacesIn}
-use Rattle.settling.specs.Placed.{Placed, placed-start, placed-more, places-in, settled-is}
+use Rattle.giving.specs.Host.{bankNumbers, wordsAfter, after-append, runWords, run-end, run-bank, run-buffer}
+use Rattle.giving.specs.Places.{noPlaces, placedOf, settledOf, PlacesIn}
+use Rattle.giving.specs.Placed.{Placed, placed-start, placed-more, places-in, settled-is}
 use Rattle.planner.specs.declared.types.Course.{Course}
 use Rattle.planner.specs.declared.types.Course.the-variants as course
 use Rattle.planner.specs.declared.types.Planner.{Planner}

@@ -7,17 +7,17 @@ ghost use Rattle.plan.specs.Whole.{planOf};
 ghost use Rattle.plan.specs.Run.{endOf};
 ghost use Rattle.plan.specs.Steps.{comingOf};
 ghost use Rattle.words.specs.Counts.{zeroCounts};
-ghost use Rattle.settling.specs.Places.{PlacesIn, settledOf};
+ghost use Rattle.giving.specs.Places.{PlacesIn, settledOf};
 ghost use Rattle.planner.specs.Coming.{Sound, coming, requestOf};
 ghost use Rattle.runs.specs.Ran.{RanIs, StepsTo, strideOf};
+use giving::Places;
 use object::Scissor;
 use object::Verdict;
 use plan::End;
 use planner::Course;
 use planner::Given;
 use planner::Planner;
-use planner::fresh;
-use settling::Places;
+use starts::fresh;
 
 // The words from one entry to the next.
 fn stride(kept: bool) -> usize
@@ -42,7 +42,7 @@ fn steps(start: Planner, bank: &mut [u64], kept: bool, plan: &mut [u64]) -> End
     ensures { λ r. ⌜ StepsTo kept (coming start) (now (plan .entry)) (now (bank .entry)) (now (plan .exit)) (now (bank .exit)) r ⌝ }
 {
     let stride = stride(kept);
-    let mut places = settling::no_places();
+    let mut places = giving::no_places();
     let mut p = start;
     let mut n = start.counts;
     let mut verdict = Verdict::Full;
@@ -55,7 +55,7 @@ fn steps(start: Planner, bank: &mut [u64], kept: bool, plan: &mut [u64]) -> End
                 if plan.len() - at < 11 {
                     break;
                 }
-                let g = settling::give(&mut *plan, at, places, n, entry);
+                let g = giving::give(&mut *plan, at, places, n, entry);
                 n = g.counts;
                 places = g.places;
                 p = s.planner;

@@ -6,5 +6,3 @@ pub mod ClipLaw
 pub mod Strip
 pub mod StartLaw
 pub mod StripLaw
-pub mod First
-pub mod FirstLaw

@@ -31,7 +31,7 @@ fn max_of(image: Quarters, scale: Scale) -> Quarters
 {
     let shown = object::shown_at(image, scale);
     let less = shown.0 - 1;
-    Quarters(signed::clear2(less))
+    Quarters(masks::clear2(less))
 }
 
 // What a frame wider than its image loses.

@@ -2,9 +2,9 @@
 ghost use Rattle.show.specs.Case.{CaseIs};
 use object::Scissor;
 use planner::Planner;
-use planner::fresh;
 use request::Case;
 use request::from_bytes;
+use starts::fresh;
 
 const COPY: u8 = 10;
 

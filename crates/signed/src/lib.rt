@@ -1,4 +1,4 @@
-// Signed numbers: division that rounds down, masks as remainders, and casts that cut.
+// Signed numbers: division that rounds down, and casts that cut.
 ghost use mathlib.Core.Path.{_≡_};
 ghost use Prim.Native.Nat.{_+_, _-_, _%_, _/_, _^_, _<_, _≤_, min, max};
 ghost use lib.IntN.{pos, negℤ};
@@ -7,7 +7,7 @@ ghost use mir.Syntax.{w16};
 ghost use mir.Val.{toZ};
 ghost use Rattle.signed.specs.Diff.{up};
 ghost use Rattle.signed.specs.Floor.{floorDiv, modulo};
-ghost use Rattle.signed.specs.Cast.{clearLow, u16, i16, word};
+ghost use Rattle.signed.specs.Cast.{u16, i16, word};
 
 pub fn least(a: u64, b: u64) -> u64
     ensures { λ r. ⌜ r ≡ min a b ⌝ }
@@ -65,47 +65,6 @@ pub fn wrapped(a: i64, b: u64) -> u64
     }
     let n = a as u64;
     if n < b { n } else { n % b }
-}
-
-// Masks that keep low bits are remainders.
-
-pub fn low5(x: u64) -> u64
-    ensures { λ r. ⌜ r ≡ x % 2 ^ 5 ⌝ }
-{
-    x & 0x1f
-}
-
-pub fn signed_low10(x: i64) -> u64
-    ensures { λ r. ⌜ r ≡ modulo x (2 ^ 10) ⌝ }
-{
-    (x & 0x3ff) as u64
-}
-
-// Masks that clear low bits take the remainder away; shifts to the right round down.
-
-pub fn clear2(x: i64) -> i64
-    ensures { λ r. ⌜ r ≡ clearLow x (2 ^ 2) ⌝ }
-{
-    x & !3
-}
-
-pub fn clear10(x: i64) -> i64
-    ensures { λ r. ⌜ r ≡ clearLow x (2 ^ 10) ⌝ }
-{
-    x & !0x3ff
-}
-
-// Whole rows of a number of thirty-seconds: the low bits cleared, then divided.
-pub fn rows5(x: i64) -> i64
-    ensures { λ r. ⌜ r ≡ floorDiv x (2 ^ 5) ⌝ }
-{
-    (x & !0x1f) / 32
-}
-
-pub fn shift10(x: i64) -> i64
-    ensures { λ r. ⌜ r ≡ floorDiv x (2 ^ 10) ⌝ }
-{
-    x >> 10
 }
 
 // Casts that cut: `as u8`, `as u16`, `as i16`, and a word of a signed number.

@@ -12,7 +12,7 @@ use Rattle.signed.specs.Diff.{zarith}
 use Rattle.object.specs.Range.{Below, Within, below-read}
 use Rattle.loads.specs.Comes.{fits, difference-in, read-in}
 use Rattle.loads.specs.Kept.{remain-in}
-use Rattle.passes.specs.Going.{lines-low}
+use Rattle.walks.specs.Going.{lines-low}
 use Rattle.passes.proofs.step.rect.Statement.{statement}
 use Rattle.passes.proofs.step.rect.Tie as tie
 

@@ -1,6 +1,6 @@
 -- `replay::bank::tile_from` meets its contract: each field is the definition's. Assumes nothing.
 use native.Mathlib.Omega.{arith}
-use Rattle.settling.specs.Host.{tileFrom}
+use Rattle.giving.specs.Host.{tileFrom}
 use borrow.Author.Needs.{needs}
 use Rattle.replay.proofs.bank.tile_from.Statement.{statement}
 use Rattle.replay.proofs.bank.tile_from.Tie as tie

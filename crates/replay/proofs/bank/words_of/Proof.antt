@@ -6,7 +6,7 @@ use native.Mathlib.Omega.{arith}
 use borrow.Author.Needs.{needs}
 use lib.ListN.{length, take, getD, length-set}
 use Rattle.tile.proofs.Known.{eight}
-use Rattle.settling.specs.Host.{bankNumbers}
+use Rattle.giving.specs.Host.{bankNumbers}
 use Rattle.replay.proofs.Banks.{next-number, all-numbers}
 use Rattle.replay.proofs.bank.words_of.Statement.{statement}
 use Rattle.replay.proofs.bank.words_of.Tie as tie

@@ -1,7 +1,7 @@
 -- `replay::record::run_and_step` meets its contract: each part is the definition's, and the test tells whether the plan is longer than the chunk. Assumes nothing.
 use mathlib.Core.Path.{sym, ap, _∙_}
 use native.Mathlib.Omega.{arith}
-use Rattle.settling.specs.Host.{bankNumbers}
+use Rattle.giving.specs.Host.{bankNumbers}
 use Rattle.replay.specs.Outcome.{outcomeOf}
 use Rattle.replay.specs.Steps.{steppedOf}
 use Rattle.replay.proofs.Stepping.{entries-are, replayed-cut, replayed-whole}

@@ -1,5 +1,5 @@
 -- `replay::steps::answer_into` meets its contract: an entry's words or an end's numbers are digested. Assumes nothing.
-use Rattle.settling.specs.Host.{endNumbers}
+use Rattle.giving.specs.Host.{endNumbers}
 use Rattle.replay.specs.Steps.{answerWords}
 use borrow.Author.Needs.{needs}
 use Rattle.replay.proofs.steps.answer_into.Statement.{statement}

@@ -2,7 +2,7 @@
 use mathlib.Core.Path.{sym, ap, _∙_}
 use native.Mathlib.Omega.{arith}
 use lib.Seq.{length-take-le}
-use Rattle.settling.specs.Host.{bankNumbers}
+use Rattle.giving.specs.Host.{bankNumbers}
 use Rattle.replay.specs.Steps.{steppedFrom}
 use Rattle.replay.proofs.Banks.{bank-fits}
 use Rattle.replay.proofs.Outcomes.{room}

@@ -3,7 +3,7 @@ use mathlib.Core.Path.{_∙_}
 use borrow.Author.Tests.{not-true}
 use borrow.Author.Needs.{needs}
 use denote.Ref.{now}
-use Rattle.planner.specs.Start.{copied-sound, copied-end}
+use Rattle.starts.specs.Start.{copied-sound, copied-end}
 use Rattle.runs.specs.Ran.{steps-over}
 use Rattle.runs.proofs.buffer.planned.Statement.{statement}
 use Rattle.runs.proofs.buffer.planned.Tie as tie

@@ -8,7 +8,7 @@ use lib.ListN.{length}
 use Rattle.object.specs.declared.types.Verdict.the-variants.{Full}
 use Rattle.words.specs.declared.count.Counts.{Counts}
 use Rattle.words.specs.Counts.{endWith}
-use Rattle.settling.specs.Host.{wordsAfter}
+use Rattle.giving.specs.Host.{wordsAfter}
 use Rattle.planner.specs.declared.types.Given.the-variants as given
 use Rattle.planner.specs.Coming.{coming}
 use Rattle.planner.specs.Step.{gave-fewer}

@@ -1,5 +1,5 @@
 -- `settling::bank::set_words` meets its contract: each arm is the definition's clause. Assumes nothing.
-use Rattle.settling.specs.Host.{wordsStep}
+use Rattle.giving.specs.Host.{wordsStep}
 use borrow.Author.Needs.{needs}
 use Rattle.settling.proofs.bank.set_words.Statement.{statement}
 use Rattle.settling.proofs.bank.set_words.Tie as tie

@@ -1,6 +1,6 @@
 -- `settling::bank::settle` meets its contract: four kinds of entries, one after another. Assumes nothing.
 use borrow.Author.Needs.{needs}
-use Rattle.settling.specs.Places.{settledOf}
+use Rattle.giving.specs.Places.{settledOf}
 use Rattle.settling.proofs.bank.settle.Statement.{statement}
 use Rattle.settling.proofs.bank.settle.Tie as tie
 

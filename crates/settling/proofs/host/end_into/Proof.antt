@@ -1,5 +1,5 @@
 -- `settling::host::end_into` meets its contract: four numbers fill the four words. Assumes nothing.
-use Rattle.settling.specs.Host.{endNumbers}
+use Rattle.giving.specs.Host.{endNumbers}
 use Rattle.words.proofs.Pasted.{filled}
 use borrow.Author.Needs.{needs}
 use Rattle.settling.proofs.host.end_into.Statement.{statement}

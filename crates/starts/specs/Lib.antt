@@ -1,0 +1,2 @@
+-- Where a plan starts, mode by mode.
+pub mod Start
