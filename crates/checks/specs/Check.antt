@@ -13,7 +13,7 @@ use Rattle.object.specs.declared.types.Verdict.{Verdict}
 use Rattle.object.specs.declared.types.Verdict.the-variants as verdict
 use Rattle.object.specs.declared.types.Checked.{Checked}
 use Rattle.object.specs.declared.types.Checked.the-variants as checked
-use Rattle.object.specs.Measure.{quarters}
+use Rattle.measures.specs.Measure.{quarters}
 use Rattle.object.specs.Layout.{sizeOf, decode}
 
 -- D "returned": the number of a verdict

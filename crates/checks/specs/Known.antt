@@ -7,8 +7,8 @@ use Rattle.object.specs.declared.types.ObjBg.{ObjBg}
 use Rattle.object.specs.declared.types.Scissor.{Scissor}
 use Rattle.object.specs.declared.types.Checked.{Checked}
 use Rattle.object.specs.declared.types.Checked.the-variants as checked
-use Rattle.object.specs.Measure.{quarters}
-use Rattle.object.specs.Range.{Below, Within}
+use Rattle.measures.specs.Measure.{quarters}
+use Rattle.measures.specs.Range.{Below, Within}
 use Rattle.checks.specs.Check.{checkedOf}
 
 -- the ranges of the fields that a plan computes with

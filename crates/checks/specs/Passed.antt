@@ -23,7 +23,7 @@ use Rattle.object.specs.declared.decode.Decoded.the-variants as decoded
 use Rattle.object.specs.Layout.{layout, valueOf, decode, decodedBy, decodedOf, Bytes}
 use Rattle.object.specs.Reads.{read-below}
 use Rattle.checks.specs.Check.{any, edgeBad, scissorBad, objectFaults, copyFaults, opcodeBad, copies, short, refusedBy, objectOf, checkedOf}
-use Rattle.object.specs.Range.{Below, Within}
+use Rattle.measures.specs.Range.{Below, Within}
 use Rattle.checks.specs.Known.{InRange, EdgesIn, Passed, PassedCopy, PassedScaled, knownOf, CheckedIs}
 
 -- ---- the ranges of the fields

@@ -4,15 +4,15 @@ ghost use Prim.Native.Nat.{_<_, _^_};
 ghost use lib.Dec.{ltb};
 ghost use Rattle.checks.specs.Check.{verdictNumber, any, opcodeBad, edgeBad, scissorBad, objectFaults, copyFaults, refusedBy, objectOf};
 ghost use Rattle.checks.specs.Known.{CheckedIs};
+use measures::quarters;
+use measures::strip_lines;
+use measures::texels;
 use object::Checked;
 use object::Decoded;
 use object::ObjBg;
 use object::Scissor;
 use object::Verdict;
 use object::decode_obj_bg;
-use object::quarters;
-use object::strip_lines;
-use object::texels;
 
 // Bytes of a pointer in the object.
 const POINTER: usize = 4;

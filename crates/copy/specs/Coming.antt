@@ -8,8 +8,8 @@ use native.Mathlib.Omega.{arith}
 use borrow.Author.Tests.{ltb-true, lt-ltb, le-ltb}
 use lib.Dec.{ltb}
 use Rattle.object.specs.declared.types.Verdict.the-variants as verdict
-use Rattle.tile.specs.declared.load.LoadRequest.{LoadRequest}
-use Rattle.tile.specs.declared.load.LoadRequest.the-variants as request
+use Rattle.load_tile.specs.declared.load.LoadRequest.{LoadRequest}
+use Rattle.load_tile.specs.declared.load.LoadRequest.the-variants as request
 use Rattle.plan.specs.declared.types.Copy.{Copy}
 use Rattle.plan.specs.declared.types.Entry.{Entry}
 use Rattle.plan.specs.Out.{Out, more, _>>=_, _>>_, yield, emit, refuse, Plan, planOut}

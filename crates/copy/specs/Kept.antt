@@ -6,8 +6,8 @@ use Prim.Native.Nat.{ℕ, _+_, _-_, _*_, _≤_, _<_}
 use native.Mathlib.Omega.{arith}
 use borrow.Author.Tests.{ltb-true, ltb-false}
 use lib.Dec.{ltb}
-use Rattle.tile.specs.declared.load.LoadRequest.{LoadRequest}
-use Rattle.tile.specs.declared.load.LoadRequest.the-variants as request
+use Rattle.load_tile.specs.declared.load.LoadRequest.{LoadRequest}
+use Rattle.load_tile.specs.declared.load.LoadRequest.the-variants as request
 use Rattle.plan.specs.declared.types.Copy.{Copy}
 use Rattle.plan.specs.Copy.{stripRow, stripHeight}
 use Rattle.plan.specs.Next.{Next}

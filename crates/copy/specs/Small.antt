@@ -5,10 +5,10 @@ use mathlib.Core.Bool.{Bool, true, false, cond}
 use Prim.Native.Nat.{ℕ, _≤_}
 use native.Mathlib.Omega.{arith}
 use lib.Dec.{eqb}
-use Rattle.tile.specs.declared.load.LoadRequest.{LoadRequest}
-use Rattle.tile.specs.declared.load.LoadRequest.the-variants as request
-use Rattle.tile.specs.Load.{rowsIn}
-use Rattle.tile.specs.Laws.{rows-in}
+use Rattle.load_tile.specs.declared.load.LoadRequest.{LoadRequest}
+use Rattle.load_tile.specs.declared.load.LoadRequest.the-variants as request
+use Rattle.load_tile.specs.Load.{rowsIn}
+use Rattle.load_tile.specs.Rows.{rows-in}
 use Rattle.plan.specs.Sound.{SoundCopy, Narrow, EntryIn}
 use Rattle.copy.specs.declared.types.Area.{Area}
 use Rattle.copy.specs.declared.types.Due.{Due}

@@ -8,10 +8,10 @@ use lib.Dec.{ltb}
 use lib.IntN.{ℤ, pos, negℤ}
 use Rattle.signed.specs.Cast.{i16}
 use Rattle.object.specs.declared.types.Verdict.the-variants as verdict
-use Rattle.object.specs.Measure.{quarters, ofTexels, rowsHigh}
-use Rattle.tile.specs.declared.load.LoadRequest.{LoadRequest}
-use Rattle.tile.specs.declared.load.LoadRequest.the-variants as request
-use Rattle.tile.specs.Load.{requestOf}
+use Rattle.measures.specs.Measure.{quarters, ofTexels, rowsHigh}
+use Rattle.load_tile.specs.declared.load.LoadRequest.{LoadRequest}
+use Rattle.load_tile.specs.declared.load.LoadRequest.the-variants as request
+use Rattle.load_tile.specs.Load.{requestOf}
 use Rattle.plan.specs.declared.types.Copy.{Copy}
 use Rattle.plan.specs.declared.types.Entry.{Entry}
 use Rattle.plan.specs.declared.types.Entry.the-variants as entry

@@ -1,8 +1,8 @@
 // The copy walk, one entry a step: the texture image, then a strip's five entries, strip after strip.
 ghost use mathlib.Core.Path.{_≡_};
 ghost use Prim.Native.Nat.{_+_, _-_, _%_, _^_, _≤_, _<_};
-ghost use Rattle.object.specs.Measure.{quarters, ofTexels};
-ghost use Rattle.object.specs.Range.{Below};
+ghost use Rattle.measures.specs.Measure.{quarters, ofTexels};
+ghost use Rattle.measures.specs.Range.{Below};
 ghost use Rattle.plan.specs.Copy.{field, bound};
 ghost use Rattle.plan.specs.Sound.{SoundCopy};
 ghost use Rattle.copy.specs.Walk.{placeAt, startAt, SoundPlace, soundAt, imageEntry, tileEntry, tile0Entry, sizeEntry, areaOf, requestIn, firstTexel, rectEntry, dueEntry, tooBig, loadNext, copyNextOf};
@@ -12,14 +12,14 @@ use crate::types::CopyNext;
 use crate::types::Due;
 use crate::types::Place;
 use crate::types::Stage;
-use object::Quarters;
+use load_tile::LoadRequest;
+use measures::Quarters;
 use plan::Copy;
 use plan::Entry;
 use plan::Strip;
 use strips::strip_height;
 use strips::strip_of;
 use strips::strip_row;
-use tile::LoadRequest;
 
 // At cell x of the row of strips at line y.
 pub fn place_at(c: Copy, x: u64, y: u64, sy: u64, strip_height: u64) -> Place
@@ -116,7 +116,7 @@ fn bound_of(texels: u64) -> u16
     requires { ⌜ texels ≤ 65535 ⌝ }
     ensures { λ r. ⌜ r ≡ bound texels ⌝ }
 {
-    let q = object::of_texels(texels as i64);
+    let q = measures::of_texels(texels as i64);
     signed::low16(q.0)
 }
 
@@ -154,10 +154,10 @@ fn first_texel(flip: bool, load_width: u64, offset: u64) -> i64
     ensures { λ r. ⌜ r ≡ firstTexel flip «load_width» offset ⌝ }
 {
     if flip {
-        let s = object::of_rows(-(load_width as i64));
+        let s = measures::of_rows(-(load_width as i64));
         signed::wide(signed::signed16(s.0))
     } else {
-        let s = object::of_rows(offset as i64);
+        let s = measures::of_rows(offset as i64);
         signed::wide(signed::signed16(s.0))
     }
 }
@@ -167,7 +167,7 @@ fn cell_at(edge: Quarters, cells: u64) -> u64
     requires { ⌜ (Below 12 (edge .0)) × (cells ≤ 1023) ⌝ }
     ensures { λ r. ⌜ r ≡ quarters edge + ofTexels cells ⌝ }
 {
-    let after = object::of_texels(cells as i64);
+    let after = measures::of_texels(cells as i64);
     (edge.0 + after.0) as u64
 }
 
@@ -259,7 +259,7 @@ pub fn request_in(c: Copy, a: Area) -> LoadRequest
     ensures { λ r. ⌜ r ≡ requestIn c a ⌝ }
 {
     let width = width_field(c.image_width);
-    tile::load_request(c.siz as u8, width, c.address, a.uls, a.ult, a.lrs, a.lrt)
+    load_tile::load_request(c.siz as u8, width, c.address, a.uls, a.ult, a.lrs, a.lrt)
 }
 
 fn load_next(p: Place) -> CopyNext

@@ -11,9 +11,9 @@ use lib.ListN.{length}
 use Rattle.signed.specs.Floor.{modulo}
 use Rattle.object.specs.declared.types.Verdict.{Verdict}
 use Rattle.object.specs.declared.types.Verdict.the-variants as verdict
-use Rattle.tile.specs.declared.load.LoadRequest.{LoadRequest}
-use Rattle.tile.specs.declared.load.LoadRequest.the-variants as request
-use Rattle.tile.specs.Load.{strideOf, offsetOf, rowsOf, requestOf}
+use Rattle.load_tile.specs.declared.load.LoadRequest.{LoadRequest}
+use Rattle.load_tile.specs.declared.load.LoadRequest.the-variants as request
+use Rattle.load_tile.specs.Load.{strideOf, offsetOf, rowsOf, requestOf}
 use Rattle.plan.specs.declared.types.Copy.{Copy}
 use Rattle.plan.specs.declared.types.End.{End}
 use Rattle.plan.specs.declared.types.Strip.{Strip}

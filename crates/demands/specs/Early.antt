@@ -15,9 +15,9 @@ use Rattle.object.specs.declared.types.Checked.the-variants as checked
 use Rattle.object.specs.declared.types.Verdict.{Verdict}
 use Rattle.object.specs.declared.types.Verdict.the-variants as verdict
 use Rattle.checks.specs.Check.{verdictNumber, checkedOf}
-use Rattle.tile.specs.declared.load.LoadRequest.{LoadRequest}
-use Rattle.tile.specs.declared.load.LoadRequest.the-variants as request
-use Rattle.tile.specs.Load.{requestOf}
+use Rattle.load_tile.specs.declared.load.LoadRequest.{LoadRequest}
+use Rattle.load_tile.specs.declared.load.LoadRequest.the-variants as request
+use Rattle.load_tile.specs.Load.{requestOf}
 use Rattle.plan.specs.declared.types.Entry.{Entry}
 use Rattle.plan.specs.declared.types.Copy.{Copy}
 use Rattle.plan.specs.declared.types.Strip.{Strip}

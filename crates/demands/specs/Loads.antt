@@ -15,7 +15,7 @@ use Rattle.signed.specs.Diff.{up}
 use Rattle.object.specs.declared.types.Checked.{Checked}
 use Rattle.object.specs.declared.types.Checked.the-variants as checked
 use Rattle.checks.specs.Check.{checkedOf}
-use Rattle.object.specs.Measure.{quarters, texels}
+use Rattle.measures.specs.Measure.{quarters, texels}
 use Rattle.object.specs.declared.types.Verdict.the-variants as verdict
 use Rattle.tile.specs.declared.bank.Tile.{Tile}
 use Rattle.tile.specs.declared.bank.Bank.{Bank}

@@ -19,8 +19,8 @@ use Rattle.signed.specs.Floor.{modulo, modulo-lt}
 use Rattle.signed.specs.Cast.{u16, i16}
 use Rattle.object.specs.declared.types.Verdict.{Verdict}
 use Rattle.object.specs.declared.types.Verdict.the-variants as verdict
-use Rattle.tile.specs.declared.load.LoadRequest.the-variants as request
-use Rattle.tile.specs.Load.{wordsOf, rowsOf, strideOf, offsetOf, granted, pickRequest, requestOf}
+use Rattle.load_tile.specs.declared.load.LoadRequest.the-variants as request
+use Rattle.load_tile.specs.Load.{wordsOf, rowsOf, strideOf, offsetOf, granted, pickRequest, requestOf}
 use Rattle.plan.specs.declared.types.Entry.{Entry}
 use Rattle.plan.specs.declared.types.Entry.the-variants as entry
 use Rattle.plan.specs.Out.{Out, more, _>>=_, _>>_, yield, emit}

@@ -20,9 +20,9 @@ use Rattle.object.specs.declared.types.Scissor.{Scissor}
 use Rattle.object.specs.declared.types.Checked.{Checked}
 use Rattle.object.specs.declared.types.Checked.the-variants as checked
 use Rattle.checks.specs.Check.{checkedOf}
-use Rattle.object.specs.Measure.{quarters, texels, ofTexels}
+use Rattle.measures.specs.Measure.{quarters, texels, ofTexels}
 use Rattle.object.specs.Layout.{Bytes, layout, valueOf, decode}
-use Rattle.object.specs.Range.{Below}
+use Rattle.measures.specs.Range.{Below}
 use Rattle.checks.specs.Known.{PassedCopy, PassedScaled}
 use Rattle.object.specs.Reads.{read-below}
 use Rattle.checks.specs.Passed.{passed-copy, passed-scaled, checked-copy-is}

@@ -11,7 +11,7 @@ use lib.Signed.{leZ}
 use Rattle.signed.specs.Diff.{zdiff, zarith}
 use Rattle.signed.specs.Floor.{floorDiv, modulo, floor-mod}
 use Rattle.signed.specs.Cast.{clearLow}
-use Rattle.object.specs.Measure.{inThirtySeconds, rowPart}
+use Rattle.measures.specs.Measure.{inThirtySeconds, rowPart}
 use Rattle.plan.specs.declared.types.Clip.{Clip}
 use Rattle.plan.specs.declared.types.Start.{Start}
 use Rattle.plan.specs.declared.types.Scaled.{Scaled}

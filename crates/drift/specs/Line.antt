@@ -10,7 +10,7 @@ use mir.ValLaws.{toZ-pos}
 use Rattle.signed.specs.Diff.{up, zdiff, zarith}
 use Rattle.signed.specs.Floor.{floorDiv, modulo, floor-mod, floor-unique, modulo-lt}
 use Rattle.signed.specs.Cast.{i16}
-use Rattle.object.specs.Range.{Below, counted}
+use Rattle.measures.specs.Range.{Below, counted}
 use Rattle.drift.specs.Plain.{NearBy}
 
 -- a line of strip k is d = 1,024 R k + v − h S − ρ − 32 × om, om what the origin has below a whole row, with v = 1,024 × the first strip's rows + 32 × t

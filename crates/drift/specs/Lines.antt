@@ -16,7 +16,7 @@ use Rattle.object.specs.declared.types.ObjBg.{ObjBg}
 use Rattle.object.specs.declared.types.Verdict.{Verdict}
 use Rattle.object.specs.declared.types.Verdict.the-variants as verdict
 use Rattle.object.specs.declared.types.Checked.{Checked}
-use Rattle.object.specs.Measure.{quarters, texels}
+use Rattle.measures.specs.Measure.{quarters, texels}
 use Rattle.object.specs.Layout.{Bytes, decode}
 use Rattle.checks.specs.Check.{verdictNumber}
 use Rattle.checks.specs.Passed.{decode-range}

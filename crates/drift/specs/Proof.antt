@@ -14,7 +14,7 @@ use Rattle.signed.specs.Diff.{up, zdiff, zparts, zarith}
 use Rattle.signed.specs.Floor.{floorDiv, modulo, floor-mod, floor-unique, modulo-lt}
 use Rattle.plan.specs.Request.{Request}
 use Rattle.object.specs.declared.types.ObjBg.{ObjBg}
-use Rattle.object.specs.Measure.{quarters, thirtySeconds, texels, sampledBy}
+use Rattle.measures.specs.Measure.{quarters, thirtySeconds, texels, sampledBy}
 use Rattle.object.specs.Layout.{decode}
 use Rattle.plan.specs.Out.{Out, yield, refuse, planOut}
 use Rattle.plan.specs.declared.types.Entry.the-variants.{Tile, Size}

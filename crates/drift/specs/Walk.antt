@@ -13,8 +13,8 @@ use lib.Signed.{ltZ, leZ}
 use Rattle.signed.specs.Diff.{up, zdiff, zarith, ltZ-true}
 use Rattle.signed.specs.Floor.{floorDiv, modulo, floor-mod}
 use Rattle.signed.specs.Cast.{minZ, i16}
-use Rattle.object.specs.Measure.{thirtySeconds}
-use Rattle.object.specs.Range.{Below}
+use Rattle.measures.specs.Measure.{thirtySeconds}
+use Rattle.measures.specs.Range.{Below}
 use Rattle.plan.specs.declared.types.Entry.{Entry}
 use Rattle.plan.specs.Out.{Out, more, _>>=_}
 use Rattle.plan.specs.declared.types.Scaled.{Scaled}

@@ -18,8 +18,8 @@ use Rattle.signed.specs.Floor.{floorDiv, modulo-lt}
 use Rattle.signed.specs.Cast.{i16, word}
 use Rattle.plan.specs.Request.{Request}
 use Rattle.object.specs.declared.types.ObjBg.{ObjBg}
-use Rattle.object.specs.Measure.{quarters, texels}
-use Rattle.object.specs.Range.{Below}
+use Rattle.measures.specs.Measure.{quarters, texels}
+use Rattle.measures.specs.Range.{Below}
 use Rattle.object.specs.Layout.{decode}
 use Rattle.plan.specs.declared.types.Entry.{Entry}
 use Rattle.plan.specs.Out.{Out, Plan, _>>=_, yield, refuse, planOut}

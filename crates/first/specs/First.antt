@@ -6,7 +6,7 @@ use lib.IntN.{ℤ, pos, negℤ, _+ℤ_, _-ℤ_, _*ℤ_}
 use lib.Signed.{_≤ℤ_}
 use Rattle.signed.specs.Floor.{floorDiv, modulo}
 use Rattle.signed.specs.Cast.{clearLow}
-use Rattle.object.specs.Measure.{wholeRows, ofPosition, ofLines, whole}
+use Rattle.measures.specs.Measure.{wholeRows, ofPosition, ofLines, whole}
 use Rattle.plan.specs.declared.types.Scaled.{Scaled}
 use Rattle.plan.specs.declared.types.Start.{Start}
 use Rattle.first.specs.declared.first.Cut.{Cut}

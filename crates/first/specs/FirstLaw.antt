@@ -11,7 +11,7 @@ use mir.Syntax.{w64}
 use mir.Val.{SFits}
 use Rattle.signed.specs.Diff.{up, dn, zdiff, zarith, mul-is}
 use Rattle.signed.specs.Floor.{floorDiv, modulo, modulo-lt, parts}
-use Rattle.object.specs.Measure.{whole, rowPart}
+use Rattle.measures.specs.Measure.{whole, rowPart}
 use Rattle.plan.specs.declared.types.Scaled.{Scaled}
 use Rattle.plan.specs.declared.types.Start.{Start}
 use Rattle.plan.specs.declared.types.First.{First}

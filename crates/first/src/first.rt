@@ -5,12 +5,12 @@ ghost use lib.IntN.{pos, negℤ, _+ℤ_, _-ℤ_};
 ghost use lib.Signed.{_≤ℤ_, _<ℤ_};
 ghost use mir.Syntax.{w64};
 ghost use mir.Val.{SFits};
-ghost use Rattle.object.specs.Range.{Below};
+ghost use Rattle.measures.specs.Range.{Below};
 ghost use Rattle.plan.specs.Sound.{SoundScaled};
 ghost use Rattle.scaled.specs.Range.{Near, FirstIs};
 ghost use Rattle.first.specs.First.{imageOffset, frameOffset, sliceStart, hiddenOf, countOf, imageRow, CutIs};
-use object::Scale;
-use object::ThirtySeconds;
+use measures::Scale;
+use measures::ThirtySeconds;
 use plan::First;
 use plan::Scaled;
 use plan::Start;
@@ -29,7 +29,7 @@ fn image_offset(y: ThirtySeconds, origin: ThirtySeconds) -> i64
     ensures { λ r. ⌜ r ≡ imageOffset (y .0) (origin .0) ⌝ }
     ensures { λ r. ⌜ (negℤ (pos (2 ^ 39)) ≤ℤ r) × (r ≤ℤ pos (2 ^ 39)) ⌝ }
 {
-    object::of_position(ThirtySeconds(y.0 - origin.0))
+    measures::of_position(ThirtySeconds(y.0 - origin.0))
 }
 
 // The same in 1,024ths of a frame line, rounded down to a whole line.
@@ -39,7 +39,7 @@ fn frame_offset(offset: i64, scale_h: Scale) -> i64
     ensures { λ r. ⌜ r ≡ frameOffset offset («scale_h» .0) ⌝ }
     ensures { λ r. ⌜ (negℤ (pos (2 ^ 49)) ≤ℤ r) × (r ≤ℤ pos (2 ^ 49)) ⌝ }
 {
-    object::of_lines(signed::floor_div(offset, scale_h.0))
+    measures::of_lines(signed::floor_div(offset, scale_h.0))
 }
 
 // A strip's rows or frame lines times its number.
@@ -76,8 +76,8 @@ fn image_row(start: i64, origin: ThirtySeconds, hidden: u64, source_rows: u64) -
     requires { ⌜ (hidden ≤ 2 ^ 40) × ((1 ≤ «source_rows») × («source_rows» ≤ 16383)) ⌝ }
     ensures { λ r. ⌜ r ≡ imageRow start (origin .0) (pos hidden) «source_rows» ⌝ }
 {
-    let top = object::whole_rows(origin);
-    signed::rem_euclid(start + top + object::whole(hidden) as i64, source_rows)
+    let top = measures::whole_rows(origin);
+    signed::rem_euclid(start + top + measures::whole(hidden) as i64, source_rows)
 }
 
 // The hidden lines in 1,024ths of an image row.
@@ -86,7 +86,7 @@ fn image_hidden_of(hidden: u64, scale_h: Scale) -> u64
     ensures { λ r. ⌜ r ≡ hidden / 1024 * «scale_h» .0 ⌝ }
     ensures { λ r. ⌜ r ≤ 2 ^ 37 ⌝ }
 {
-    object::whole(hidden) * scale_h.0
+    measures::whole(hidden) * scale_h.0
 }
 
 // A strip's rows less those that are hidden, which may be more.
@@ -94,7 +94,7 @@ fn rows_left(image_rows: u64, image_hidden: u64) -> i64
     requires { ⌜ («image_rows» ≤ 512) × («image_hidden» ≤ 2 ^ 37) ⌝ }
     ensures { λ r. ⌜ r ≡ pos «image_rows» -ℤ pos («image_hidden» / 1024) ⌝ }
 {
-    image_rows as i64 - object::whole(image_hidden) as i64
+    image_rows as i64 - measures::whole(image_hidden) as i64
 }
 
 fn cut_of(z: Scaled, i: Start) -> Cut
@@ -122,7 +122,7 @@ pub fn first_of(z: Scaled, i: Start) -> First
     let slice = cut.slice;
     let image_hidden = image_hidden_of(cut.hidden, z.scale_h);
     let count = count_of(cut.start, z.frame_rows, cut.hidden);
-    let t = object::row_part(image_hidden);
+    let t = measures::row_part(image_hidden);
     let slice_rows = rows_left(z.image_rows, image_hidden);
     let top = slice_start(z.image_rows, slice);
     let image_row = image_row(top, i.origin, image_hidden, z.source_rows);

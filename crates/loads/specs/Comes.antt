@@ -11,7 +11,7 @@ use mir.Val.{SFits, toZ, ofZ}
 use Rattle.signed.specs.Diff.{up, dn, zdiff, zarith}
 use Rattle.signed.specs.Floor.{floorDiv}
 use Rattle.signed.specs.Word.{rd}
-use Rattle.object.specs.Range.{Within}
+use Rattle.measures.specs.Range.{Within}
 
 pub times-comm : (n : ℕ) (z : ℤ) → pos n *ℤ z ≡ z *ℤ pos n
 times-comm n z = simp zdiff (omega zarith)

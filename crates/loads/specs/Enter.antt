@@ -12,7 +12,7 @@ use lib.IntN.{ℤ, pos, _+ℤ_, _-ℤ_, _*ℤ_}
 use lib.Signed.{ltZ, leZ}
 use Rattle.object.specs.declared.types.Verdict.{Verdict}
 use Rattle.object.specs.declared.types.Verdict.the-variants as verdict
-use Rattle.object.specs.Range.{Within}
+use Rattle.measures.specs.Range.{Within}
 use Rattle.plan.specs.declared.types.Source.{Source}
 use Rattle.plan.specs.Out.{Out, Plan, _>>_, yield, refuse, emit, planOut}
 use Rattle.plan.specs.Laws.{more-nil}

@@ -19,7 +19,7 @@ use Rattle.plan.specs.Load.{sourceAddress}
 use Rattle.plan.specs.Sound.{SoundScaled}
 use Rattle.plan.specs.Scaled.{drawOf, leftAfter, linesOf, nextPass, afterDraw, advance}
 use Rattle.loads.specs.declared.types.Place.{Place}
-use Rattle.object.specs.Range.{Within}
+use Rattle.measures.specs.Range.{Within}
 use Rattle.loads.specs.Comes.{within}
 use Rattle.loads.specs.Loads.{advance-on, advance-wrap}
 use Rattle.loads.specs.Sound.{SoundWalk, SoundPass}

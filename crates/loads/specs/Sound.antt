@@ -9,8 +9,8 @@ use lib.Signed.{_≤ℤ_, ltZ, leZ}
 use Rattle.signed.specs.Diff.{up, dn}
 use Rattle.signed.specs.Floor.{modulo}
 use Rattle.signed.specs.Cast.{minZ}
-use Rattle.object.specs.Measure.{quarters, whole}
-use Rattle.object.specs.Range.{Below, Within}
+use Rattle.measures.specs.Measure.{quarters, whole}
+use Rattle.measures.specs.Range.{Below, Within}
 use Rattle.plan.specs.declared.types.Scaled.{Scaled}
 use Rattle.plan.specs.declared.types.Source.{Source}
 use Rattle.plan.specs.declared.types.Walk.{Walk}

@@ -4,7 +4,7 @@ ghost use mathlib.Core.Bool.{true};
 ghost use Prim.Native.Nat.{_+_, _-_};
 ghost use lib.IntN.{pos, _-ℤ_};
 ghost use lib.Signed.{ltZ};
-ghost use Rattle.object.specs.Range.{Within};
+ghost use Rattle.measures.specs.Range.{Within};
 ghost use Rattle.plan.specs.Sound.{SoundScaled};
 ghost use Rattle.plan.specs.Scaled.{back as backOf};
 ghost use Rattle.loads.specs.Coming.{sumOut, passFrom, partThen, wholePart, topThen, partsFrom, afterPart, afterWhole};

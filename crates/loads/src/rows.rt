@@ -2,7 +2,7 @@
 ghost use mathlib.Core.Path.{_≡_};
 ghost use Prim.Native.Nat.{_≤_, _^_};
 ghost use lib.IntN.{pos, _+ℤ_, _-ℤ_, _*ℤ_};
-ghost use Rattle.object.specs.Range.{Within};
+ghost use Rattle.measures.specs.Range.{Within};
 
 pub fn difference(a: i64, b: i64) -> i64
     requires { ⌜ (Within 60 a) × Within 60 b ⌝ }

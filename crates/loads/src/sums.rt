@@ -1,7 +1,7 @@
 // Address sums, and where the rows after a pass come from.
 ghost use mathlib.Core.Path.{_≡_};
 ghost use lib.IntN.{pos};
-ghost use Rattle.object.specs.Range.{Within};
+ghost use Rattle.measures.specs.Range.{Within};
 ghost use Rattle.plan.specs.Sound.{SoundScaled};
 ghost use Rattle.plan.specs.Load.{sourceAddress};
 ghost use Rattle.plan.specs.Scaled.{advance as advanceOf};

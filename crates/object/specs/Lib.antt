@@ -1,5 +1,3 @@
--- The object: its three measures, its fields in the bytes, and their laws.
-pub mod Measure
+-- The object: its fields in the bytes, and their laws.
 pub mod Layout
 pub mod Reads
-pub mod Range

@@ -6,13 +6,13 @@ ghost use lib.IntN.{pos};
 ghost use lib.ListN.{length};
 ghost use mir.Syntax.{w16, w32};
 ghost use mir.Val.{toZ};
-ghost use Rattle.object.specs.Measure.{inQuarters, inThirtySeconds, inScale};
+ghost use Rattle.measures.specs.Measure.{inQuarters, inThirtySeconds, inScale};
 ghost use Rattle.object.specs.Layout.{read, sizeOf, decode, decodedOf};
 use crate::reader::field_from;
 use crate::types::ObjBg;
-use crate::types::Quarters;
-use crate::types::Scale;
-use crate::types::ThirtySeconds;
+use measures::Quarters;
+use measures::Scale;
+use measures::ThirtySeconds;
 use signed::most;
 
 pub enum Decoded {

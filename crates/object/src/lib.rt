@@ -1,38 +1,13 @@
-// Background objects: their measures and their fields.
+// Background objects: their fields, out of the bytes.
 mod decode;
-mod measure;
 mod reader;
 mod types;
 
 pub use decode::Decoded;
 pub use decode::decode_obj_bg;
-pub use measure::edge;
-pub use measure::extent;
-pub use measure::in_image;
-pub use measure::lines_at;
-pub use measure::of_lines;
-pub use measure::of_position;
-pub use measure::of_rows;
-pub use measure::of_texels;
-pub use measure::of_thirty_seconds;
-pub use measure::of_words;
-pub use measure::quarters;
-pub use measure::row_part;
-pub use measure::sampled_by;
-pub use measure::shown_at;
-pub use measure::signed_whole;
-pub use measure::strip_lines;
-pub use measure::texels;
-pub use measure::thirty_seconds;
-pub use measure::whole;
-pub use measure::whole_rows;
-pub use measure::whole_texels;
 pub use reader::Reader;
 pub use reader::field_from;
 pub use types::Checked;
 pub use types::ObjBg;
-pub use types::Quarters;
-pub use types::Scale;
 pub use types::Scissor;
-pub use types::ThirtySeconds;
 pub use types::Verdict;

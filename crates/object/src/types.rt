@@ -1,13 +1,7 @@
-// The three measures, the object's fields, the scissor, and the verdicts.
-
-// 10.2: widths, heights and frame positions, in quarters of a texel.
-pub struct Quarters(pub i64);
-
-// 10.5: image_x, image_y and the origin, in thirty-seconds of a texel.
-pub struct ThirtySeconds(pub i64);
-
-// 5.10: scales, in 1,024ths.
-pub struct Scale(pub u64);
+// The object's fields, the scissor, and the verdicts.
+use measures::Quarters;
+use measures::Scale;
+use measures::ThirtySeconds;
 
 // A decoded background; fields outside its kind are 0.
 pub struct ObjBg {

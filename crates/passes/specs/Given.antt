@@ -11,7 +11,7 @@ use Rattle.signed.specs.Cast.{u16}
 use lib.IntN.{ℤ, pos, negsuc, _-ℤ_, _*ℤ_}
 use lib.Signed.{_≤ℤ_}
 use Rattle.signed.specs.Diff.{up, dn, zdiff, zparts, zarith}
-use Rattle.object.specs.Measure.{quarters, texels}
+use Rattle.measures.specs.Measure.{quarters, texels}
 use Rattle.object.specs.declared.types.Verdict.the-variants as verdict
 use Rattle.plan.specs.declared.types.Entry.{Entry}
 use Rattle.plan.specs.declared.types.Entry.the-variants.{Size}
@@ -25,10 +25,10 @@ use Rattle.plan.specs.Out.Out.{go, stop}
 use Rattle.plan.specs.Load.{loadOut, loadTile, sourceAddress}
 use Rattle.plan.specs.Next.{cons, ended}
 use Rattle.plan.specs.Sound.{SoundScaled, SoundFirst, entryRows, entryLine, EntryIn, Narrow, Names}
-use Rattle.tile.specs.declared.load.LoadRequest.{LoadRequest}
-use Rattle.tile.specs.declared.load.LoadRequest.the-variants as request
-use Rattle.tile.specs.Load.{requestOf, rowsIn}
-use Rattle.tile.specs.Laws.{rows-in}
+use Rattle.load_tile.specs.declared.load.LoadRequest.{LoadRequest}
+use Rattle.load_tile.specs.declared.load.LoadRequest.the-variants as request
+use Rattle.load_tile.specs.Load.{requestOf, rowsIn}
+use Rattle.load_tile.specs.Rows.{rows-in}
 use Rattle.plan.specs.Scaled.{sizeOf, fieldOf, lrsOf, lrtOf, tile7, loadPart, loadRows, rectOf, advance, drawOf, leftAfter, afterDraw, firstPass, passes, scaledPlan}
 use Rattle.loads.specs.declared.types.Part.{Part}
 use Rattle.loads.specs.declared.types.Piece.the-variants as piece

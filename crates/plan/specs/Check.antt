@@ -11,7 +11,7 @@ use Rattle.object.specs.Layout.{layout, read, valueOf, decode}
 use Rattle.checks.specs.Check.{verdictNumber, scissorBad, objectFaults, copyFaults, objectOf, checkedOf}
 use Rattle.tile.specs.declared.bank.Tile.{Tile}
 use Rattle.tile.specs.Bank.{extent, setTile, setSize}
-use Rattle.tile.specs.Load.{requestOf}
+use Rattle.load_tile.specs.Load.{requestOf}
 use Rattle.plan.specs.declared.types.End.{End}
 use Rattle.plan.specs.Request.{Request}
 use Rattle.plan.specs.Load.{loadOut, loadTile, sourceAddress}

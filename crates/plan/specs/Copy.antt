@@ -10,7 +10,7 @@ use Rattle.signed.specs.Floor.{modulo}
 use Rattle.signed.specs.Cast.{minZ, i16}
 use Rattle.object.specs.declared.types.Scissor.{Scissor}
 use Rattle.object.specs.declared.types.ObjBg.{ObjBg}
-use Rattle.object.specs.Measure.{quarters, thirtySeconds, texels, ofTexels, edge, wholeTexels, inQuarters, rowsHigh}
+use Rattle.measures.specs.Measure.{quarters, thirtySeconds, texels, ofTexels, edge, wholeTexels, inQuarters, rowsHigh}
 use Rattle.plan.specs.Out.{Out, _>>=_, _>>_, yield, emit, refuse}
 use Rattle.plan.specs.declared.types.Entry.the-variants.{Image, Tile, Size, Rect}
 use Rattle.plan.specs.declared.types.Copy.{Copy}

@@ -10,7 +10,7 @@ use lib.IntN.{ℤ, pos, negℤ, _+ℤ_, _-ℤ_, _*ℤ_}
 use lib.Signed.{ltZ, leZ, _≤ℤ_}
 use Rattle.signed.specs.Diff.{up}
 use Rattle.signed.specs.Floor.{floorDiv, modulo}
-use Rattle.object.specs.Measure.{quarters, thirtySeconds, texels, wholeRows, sampledBy, whole}
+use Rattle.measures.specs.Measure.{quarters, thirtySeconds, texels, wholeRows, sampledBy, whole}
 use Rattle.object.specs.Layout.{decode}
 use Rattle.plan.specs.Request.{Request}
 use Rattle.plan.specs.declared.types.Entry.{Entry}

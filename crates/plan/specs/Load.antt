@@ -8,9 +8,9 @@ use lib.IntN.{ℤ, pos, _+ℤ_}
 use lib.Signed.{ltZ}
 use Rattle.signed.specs.Diff.{up}
 use Rattle.object.specs.declared.types.Verdict.the-variants as verdict
-use Rattle.tile.specs.declared.load.LoadRequest.{LoadRequest}
-use Rattle.tile.specs.declared.load.LoadRequest.the-variants as request
-use Rattle.tile.specs.Load.{requestOf}
+use Rattle.load_tile.specs.declared.load.LoadRequest.{LoadRequest}
+use Rattle.load_tile.specs.declared.load.LoadRequest.the-variants as request
+use Rattle.load_tile.specs.Load.{requestOf}
 use Rattle.plan.specs.declared.types.Entry.the-variants.{Size, Load}
 use Rattle.plan.specs.Out.{Out}
 use Rattle.plan.specs.Out.Out.{go, stop}

@@ -11,7 +11,7 @@ use Rattle.signed.specs.Floor.{floorDiv, modulo}
 use Rattle.signed.specs.Cast.{minZ, clearLow, u16, i16}
 use Rattle.object.specs.declared.types.Scissor.{Scissor}
 use Rattle.object.specs.declared.types.ObjBg.{ObjBg}
-use Rattle.object.specs.Measure.{quarters, thirtySeconds, texels, ofTexels, edge, wholeTexels, ofRows, wholeRows, inImage, sampledBy, shownAt, linesAt, ofPosition, ofLines, whole, inQuarters, inThirtySeconds, extent, texelsWide, wordsWide, rowPart}
+use Rattle.measures.specs.Measure.{quarters, thirtySeconds, texels, ofTexels, edge, wholeTexels, ofRows, wholeRows, inImage, sampledBy, shownAt, linesAt, ofPosition, ofLines, whole, inQuarters, inThirtySeconds, extent, texelsWide, wordsWide, rowPart}
 use Rattle.plan.specs.declared.types.Entry.{Entry}
 use Rattle.plan.specs.Out.{Out, _>>=_, _>>_, yield, emit, refuse}
 use Rattle.plan.specs.declared.types.Entry.the-variants.{Image, Tile, Size, Rect}

@@ -6,7 +6,7 @@ use Prim.Native.Nat.{ℕ, _/_, _^_, _≤_, _<_}
 use lib.Dec.{eqb}
 use lib.IntN.{ℤ, pos, negℤ}
 use lib.Signed.{_≤ℤ_}
-use Rattle.object.specs.Range.{Below}
+use Rattle.measures.specs.Range.{Below}
 use Rattle.plan.specs.declared.types.Copy.{Copy}
 use Rattle.plan.specs.declared.types.Scaled.{Scaled}
 use Rattle.plan.specs.declared.types.First.{First}

@@ -1,7 +1,7 @@
 // The entries and ends of plans, and the numbers of both planners, with the names of the Rust.
-use object::Quarters;
-use object::Scale;
-use object::ThirtySeconds;
+use measures::Quarters;
+use measures::Scale;
+use measures::ThirtySeconds;
 use object::Verdict;
 
 // One entry of a plan. Its numbers have 64 bits, as a host gets them: the compiler would pack and unpack narrower ones at every step.

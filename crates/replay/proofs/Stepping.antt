@@ -32,9 +32,10 @@ use Rattle.replay.specs.declared.record.Mixed.{Mixed}
 use Rattle.replay.specs.declared.record.Mixed.the-variants as mixed
 use Rattle.replay.specs.declared.steps.Digests.{Digests}
 use Rattle.replay.specs.Outcome.{outcomeOf}
-use Rattle.replay.specs.Passed.{AllNarrow, Passed}
+use Rattle.banks.specs.Narrows.{AllNarrow}
+use Rattle.replay.specs.Passed.{Passed}
 use Rattle.replay.specs.Steps.{answerWords, answersWords, steppedFrom, steppedOf, endsIn, mixedOf, replayedOf}
-use Rattle.replay.proofs.Banks.{BankFits, bank-back, after-fits}
+use Rattle.banks.proofs.Banks.{BankFits, bank-back, after-fits}
 use Rattle.replay.proofs.Outcomes.{standing}
 
 -- words after words

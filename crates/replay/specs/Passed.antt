@@ -1,19 +1,12 @@
 -- What steps that are passed over leave of a planner.
 -- Assumes nothing.
 use mathlib.Core.Path.{_≡_}
-use mathlib.Core.List.{List, [], _∷_}
 use Prim.Native.Nat.{ℕ}
 use lib.ListN.{take, drop}
-use Rattle.plan.specs.declared.types.Entry.{Entry}
-use Rattle.plan.specs.Sound.{Narrow}
 use Rattle.plan.specs.Steps.{Coming}
+use Rattle.banks.specs.Narrows.{AllNarrow}
 use Rattle.planner.specs.declared.types.Planner.{Planner}
 use Rattle.planner.specs.Coming.{Sound, coming}
-
--- what a tile keeps of each fits the tile's fields
-abbrev pub AllNarrow : List Entry → Type 0
-AllNarrow [] = Unit {0}
-AllNarrow (e ∷ es) = Narrow e × AllNarrow es
 
 -- n entries of what was to come are given, the rest is to come
 pub record Passed (n : ℕ) (k : Coming) (p : Planner) : Type 0 where

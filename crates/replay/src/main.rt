@@ -1,5 +1,4 @@
 // Runs a fixed list of records and prints of each what README.md says, to be compared with what the Rust answered.
-mod bank;
 mod files;
 mod outcome;
 mod record;

@@ -5,13 +5,13 @@ ghost use Rattle.plan.specs.Whole.{planOf};
 ghost use Rattle.giving.specs.Host.{bankFrom};
 ghost use Rattle.request.specs.Host.{withBytes};
 ghost use Rattle.replay.specs.Steps.{replayedOf};
-use crate::bank::bank_from;
-use crate::bank::words_of;
 use crate::outcome::Outcome;
 use crate::outcome::run_into;
 use crate::steps::Digests;
 use crate::steps::mixed;
 use crate::steps::stepped;
+use banks::bank_from;
+use banks::words_of;
 use plan::End;
 use request::Request;
 

@@ -8,7 +8,7 @@ use Rattle.signed.specs.Diff.{up}
 use Rattle.signed.specs.Cast.{minZ}
 use Rattle.object.specs.declared.types.ObjBg.{ObjBg}
 use Rattle.object.specs.declared.types.Scissor.{Scissor}
-use Rattle.object.specs.Measure.{quarters, edge, inQuarters}
+use Rattle.measures.specs.Measure.{quarters, edge, inQuarters}
 use Rattle.plan.specs.Scaled.{maxOf}
 use Rattle.scaled.specs.declared.clip.Axis.{Axis}
 

@@ -10,8 +10,8 @@ use Rattle.signed.specs.Diff.{zdiff, zparts, zarith}
 use Rattle.signed.specs.Cast.{minZ}
 use Rattle.object.specs.declared.types.ObjBg.{ObjBg}
 use Rattle.object.specs.declared.types.Scissor.{Scissor}
-use Rattle.object.specs.Measure.{quarters, edge}
-use Rattle.object.specs.Range.{Below}
+use Rattle.measures.specs.Measure.{quarters, edge}
+use Rattle.measures.specs.Range.{Below}
 use Rattle.checks.specs.Known.{PassedScaled}
 use Rattle.plan.specs.declared.types.Clip.{Clip}
 use Rattle.plan.specs.Scaled.{clipOf, scaledEmpty}

@@ -10,10 +10,10 @@ use mir.Val.{SFits, toZ, ofZ}
 use mir.ValLaws.{toZ-ofZ}
 use Rattle.signed.specs.Diff.{up, zarith}
 use Rattle.object.specs.declared.types.ObjBg.{ObjBg}
-use Rattle.object.specs.declared.types.Quarters.{Quarters}
+use Rattle.measures.specs.declared.types.Quarters.{Quarters}
 use Rattle.object.specs.declared.types.Scissor.{Scissor}
-use Rattle.object.specs.Measure.{quarters, thirtySeconds, edge, inImage}
-use Rattle.object.specs.Range.{Below}
+use Rattle.measures.specs.Measure.{quarters, thirtySeconds, edge, inImage}
+use Rattle.measures.specs.Range.{Below}
 use Rattle.checks.specs.Known.{InRange, PassedScaled}
 use Rattle.plan.specs.declared.types.Clip.{Clip}
 use Rattle.plan.specs.declared.types.Start.{Start}

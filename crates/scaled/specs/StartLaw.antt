@@ -8,8 +8,8 @@ use lib.IntN.{ℤ, pos, negℤ}
 use lib.Signed.{_≤ℤ_}
 use Rattle.signed.specs.Diff.{zdiff, zarith}
 use Rattle.object.specs.declared.types.ObjBg.{ObjBg}
-use Rattle.object.specs.Measure.{quarters, thirtySeconds, ofRows, inImage, sampledBy}
-use Rattle.object.specs.Range.{Within}
+use Rattle.measures.specs.Measure.{quarters, thirtySeconds, ofRows, inImage, sampledBy}
+use Rattle.measures.specs.Range.{Within}
 use Rattle.plan.specs.declared.types.Clip.{Clip}
 use Rattle.plan.specs.Scaled.{startOf}
 use Rattle.scaled.specs.Number.{sampled-le, quotient-le}

@@ -6,7 +6,7 @@ use Prim.Native.Nat.{ℕ, _+_, _-_, _*_, _/_, _%_, _^_, min}
 use lib.Dec.{eqb, leb}
 use lib.IntN.{ℤ, pos, negℤ, _+ℤ_, _-ℤ_}
 use Rattle.object.specs.declared.types.ObjBg.{ObjBg}
-use Rattle.object.specs.Measure.{quarters, thirtySeconds, wholeTexels, ofRows, inImage, sampledBy, linesAt, inThirtySeconds}
+use Rattle.measures.specs.Measure.{quarters, thirtySeconds, wholeTexels, ofRows, inImage, sampledBy, linesAt, inThirtySeconds}
 use Rattle.plan.specs.declared.types.Clip.{Clip}
 use Rattle.plan.specs.declared.types.Start.{Start}
 use Rattle.plan.specs.Scaled.{scaledCapacity}

@@ -8,7 +8,7 @@ use native.Mathlib.Nat.{div-le-self, div-mul-le-self, le-div-iff-mul-le, mul-le-
 use lib.Dec.{eqb, leb}
 use Rattle.signed.specs.Diff.{zdiff, zarith}
 use Rattle.object.specs.declared.types.ObjBg.{ObjBg}
-use Rattle.object.specs.Measure.{quarters, thirtySeconds, ofRows, inImage, sampledBy}
+use Rattle.measures.specs.Measure.{quarters, thirtySeconds, ofRows, inImage, sampledBy}
 use Rattle.plan.specs.declared.types.Clip.{Clip}
 use Rattle.plan.specs.declared.types.Start.{Start}
 use Rattle.plan.specs.declared.types.Scaled.{Scaled}

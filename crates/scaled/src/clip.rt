@@ -3,15 +3,15 @@ ghost use mathlib.Core.Path.{_≡_};
 ghost use Prim.Native.Nat.{_+_, _≤_, _^_};
 ghost use lib.IntN.{pos, negℤ};
 ghost use lib.Signed.{_≤ℤ_};
-ghost use Rattle.object.specs.Measure.{quarters, inQuarters};
-ghost use Rattle.object.specs.Range.{Below, Within};
+ghost use Rattle.measures.specs.Measure.{quarters, inQuarters};
+ghost use Rattle.measures.specs.Range.{Below, Within};
 ghost use Rattle.checks.specs.Known.{PassedScaled};
 ghost use Rattle.plan.specs.Scaled.{scaledEmpty};
 ghost use Rattle.scaled.specs.Range.{ClipIs};
 ghost use Rattle.scaled.specs.Clip.{greatest, removed, kept, lower, moved, nearCut, farCut, AxisIs, Across, Down};
+use measures::Quarters;
+use measures::Scale;
 use object::ObjBg;
-use object::Quarters;
-use object::Scale;
 use object::Scissor;
 use plan::Clip;
 
@@ -29,7 +29,7 @@ fn max_of(image: Quarters, scale: Scale) -> Quarters
     ensures { λ r. ⌜ r ≡ inQuarters (greatest (quarters image) (scale .0)) ⌝ }
     ensures { λ r. ⌜ (negℤ (pos 4) ≤ℤ r .0) × (r .0 ≤ℤ pos (2 ^ 26)) ⌝ }
 {
-    let shown = object::shown_at(image, scale);
+    let shown = measures::shown_at(image, scale);
     let less = shown.0 - 1;
     Quarters(masks::clear2(less))
 }
@@ -41,7 +41,7 @@ fn removed_of(frame: Quarters, image: Quarters, scale: Scale) -> Quarters
     ensures { λ r. ⌜ quarters r ≤ quarters frame + 4 ⌝ }
 {
     let max = max_of(image, scale);
-    object::extent(frame.0 - max.0)
+    measures::extent(frame.0 - max.0)
 }
 
 fn height_of(frame: Quarters, image: Quarters, scale: Scale) -> Quarters
@@ -59,7 +59,7 @@ fn near_cut(x: Quarters, ul: Quarters) -> Quarters
     ensures { λ r. ⌜ r ≡ inQuarters (pos (nearCut (x .0) (quarters ul))) ⌝ }
     ensures { λ r. ⌜ quarters r ≤ 36863 ⌝ }
 {
-    object::extent(ul.0 - x.0)
+    measures::extent(ul.0 - x.0)
 }
 
 // The Rust's `right` and `bottom`.
@@ -69,7 +69,7 @@ fn far_cut(x: Quarters, extent: Quarters, lr: Quarters) -> Quarters
     ensures { λ r. ⌜ r ≡ inQuarters (pos (farCut (x .0) (extent .0) (quarters lr))) ⌝ }
     ensures { λ r. ⌜ quarters r ≤ 2 ^ 19 ⌝ }
 {
-    object::extent(extent.0 - lr.0 + x.0)
+    measures::extent(extent.0 - lr.0 + x.0)
 }
 
 // An extent at `x` between two edges of the scissor.
@@ -81,8 +81,8 @@ fn cut_axis(x: Quarters, extent: Quarters, ul: Quarters, lr: Quarters) -> Axis
 {
     let near = near_cut(x, ul);
     let far = far_cut(x, extent, lr);
-    let start = object::extent(x.0 + near.0);
-    let rest = object::extent(extent.0 - (near.0 + far.0));
+    let start = measures::extent(x.0 + near.0);
+    let rest = measures::extent(extent.0 - (near.0 + far.0));
     Axis {
         near,
         far,
@@ -123,8 +123,8 @@ fn across(bg: ObjBg, flip: bool, scissor: Scissor) -> Axis
     cut_axis(
         x,
         width,
-        object::edge(scissor.ulx),
-        object::edge(scissor.lrx),
+        measures::edge(scissor.ulx),
+        measures::edge(scissor.lrx),
     )
 }
 
@@ -136,8 +136,8 @@ fn down(bg: ObjBg, scissor: Scissor) -> Axis
     cut_axis(
         bg.frame_y,
         height,
-        object::edge(scissor.uly),
-        object::edge(scissor.lry),
+        measures::edge(scissor.uly),
+        measures::edge(scissor.lry),
     )
 }
 
@@ -170,5 +170,5 @@ pub fn clip_of(bg: ObjBg, scissor: Scissor) -> Clip
 pub fn clip_empty(c: Clip) -> bool
     ensures { λ r. ⌜ r ≡ scaledEmpty c ⌝ }
 {
-    object::quarters(c.width) == 0 || object::quarters(c.height) == 0
+    measures::quarters(c.width) == 0 || measures::quarters(c.height) == 0
 }

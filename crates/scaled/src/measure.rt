@@ -2,10 +2,10 @@
 ghost use mathlib.Core.Bool.{cond};
 ghost use mathlib.Core.Path.{_≡_};
 ghost use lib.IntN.{_+ℤ_};
-ghost use Rattle.object.specs.Measure.{inThirtySeconds};
-ghost use Rattle.object.specs.Range.{Below};
-use object::Quarters;
-use object::ThirtySeconds;
+ghost use Rattle.measures.specs.Measure.{inThirtySeconds};
+ghost use Rattle.measures.specs.Range.{Below};
+use measures::Quarters;
+use measures::ThirtySeconds;
 
 pub(crate) fn chosen(test: bool, yes: Quarters, no: Quarters) -> Quarters
     ensures { λ r. ⌜ r ≡ cond test yes no ⌝ }

@@ -2,16 +2,16 @@
 ghost use mathlib.Core.Path.{_≡_};
 ghost use Prim.Native.Nat.{_+_, _*_, _/_, _%_, _≤_, _<_, _^_};
 ghost use lib.IntN.{pos};
-ghost use Rattle.object.specs.Measure.{quarters, thirtySeconds, ofRows, sampledBy, inThirtySeconds};
-ghost use Rattle.object.specs.Range.{Below};
+ghost use Rattle.measures.specs.Measure.{quarters, thirtySeconds, ofRows, sampledBy, inThirtySeconds};
+ghost use Rattle.measures.specs.Range.{Below};
 ghost use Rattle.plan.specs.Scaled.{slicesBad};
 ghost use Rattle.scaled.specs.Range.{Usable, Filled, StartIn, ScaledIs};
 ghost use Rattle.scaled.specs.Strip.{shiftOf, maxSlice, lineOf, splitOf, sOf, RowsAre, ColumnsAre};
 use crate::measure::sum;
+use measures::Quarters;
+use measures::Scale;
+use measures::ThirtySeconds;
 use object::ObjBg;
-use object::Quarters;
-use object::Scale;
-use object::ThirtySeconds;
 use plan::Clip;
 use plan::Scaled;
 use plan::Start;
@@ -56,7 +56,7 @@ fn column_of(x: ThirtySeconds, siz: u8) -> ThirtySeconds
     ensures { λ r. ⌜ thirtySeconds r < 512 ⌝ }
 {
     let mask = shift_of(siz) - 1;
-    object::of_thirty_seconds(object::thirty_seconds(x) & mask)
+    measures::of_thirty_seconds(measures::thirty_seconds(x) & mask)
 }
 
 fn max_slice_of(siz: u8, slice: ThirtySeconds, source_w: ThirtySeconds) -> u64
@@ -68,8 +68,8 @@ fn max_slice_of(siz: u8, slice: ThirtySeconds, source_w: ThirtySeconds) -> u64
         0x2800
     } else {
         signed::least(
-            object::thirty_seconds(slice),
-            object::thirty_seconds(source_w),
+            measures::thirty_seconds(slice),
+            measures::thirty_seconds(source_w),
         )
     }
 }
@@ -81,8 +81,8 @@ fn slice_width(width: Quarters, scale: Scale, bilerp: u64) -> ThirtySeconds
     ensures { λ r. ⌜ thirtySeconds r ≤ 2 ^ 26 ⌝ }
 {
     sum(
-        object::sampled_by(width, scale),
-        object::of_rows(bilerp as i64),
+        measures::sampled_by(width, scale),
+        measures::of_rows(bilerp as i64),
     )
 }
 
@@ -93,7 +93,7 @@ fn line_of(bg: ObjBg, bilerp: u64) -> u64
     ensures { λ r. ⌜ r ≡ lineOf bg bilerp ⌝ }
     ensures { λ r. ⌜ 1 ≤ r ⌝ }
 {
-    let source_w = object::in_image(bg.image_w);
+    let source_w = measures::in_image(bg.image_w);
     let slice = slice_width(bg.frame_w, bg.scale_w, bilerp);
     let shift = shift_of(bg.image_siz);
     let max_slice = max_slice_of(bg.image_siz, slice, source_w);
@@ -105,14 +105,14 @@ fn bytes_of(x: ThirtySeconds, siz: u8) -> u64
     requires { ⌜ (thirtySeconds x ≤ 2 ^ 20) × (siz ≤ 3) ⌝ }
     ensures { λ r. ⌜ r ≡ thirtySeconds x / shiftOf siz * 8 ⌝ }
 {
-    object::thirty_seconds(x) / shift_of(siz) * 8
+    measures::thirty_seconds(x) / shift_of(siz) * 8
 }
 
 // One where a strip's rows run over the image's right side.
 fn split_of(source_w: ThirtySeconds, end: ThirtySeconds) -> u64
     ensures { λ r. ⌜ r ≡ splitOf (thirtySeconds «source_w») (thirtySeconds end) ⌝ }
 {
-    if object::thirty_seconds(source_w) <= object::thirty_seconds(end) {
+    if measures::thirty_seconds(source_w) <= measures::thirty_seconds(end) {
         1
     } else {
         0
@@ -139,8 +139,8 @@ fn rows_of(bg: ObjBg, bilerp: u64) -> Rows
     let line = line_of(bg, bilerp);
     let capacity = capacity::scaled_capacity(bg.image_fmt, bg.image_siz);
     let image_rows = signed::minus(capacity / line, bilerp);
-    let frame_rows = object::lines_at(image_rows, bg.scale_h);
-    let source_rows = object::whole_texels(object::in_image(bg.image_h));
+    let frame_rows = measures::lines_at(image_rows, bg.scale_h);
+    let source_rows = measures::whole_texels(measures::in_image(bg.image_h));
     Rows {
         line,
         image_rows,
@@ -156,13 +156,13 @@ fn columns_of(bg: ObjBg, bilerp: u64, c: Clip, i: Start) -> Columns
     requires { ⌜ StartIn bg i ⌝ }
     ensures { λ r. ⌜ ColumnsAre bg bilerp c i r ⌝ }
 {
-    let source_w = object::in_image(bg.image_w);
+    let source_w = measures::in_image(bg.image_w);
     let image_x = i.image_x;
     let slice = slice_width(c.width, bg.scale_w, bilerp);
     let split = split_of(source_w, sum(image_x, slice));
     let stride = bytes_of(source_w, bg.image_siz);
     let x_offset = bytes_of(image_x, bg.image_siz);
-    let image_width = object::sampled_by(c.width, bg.scale_w);
+    let image_width = measures::sampled_by(c.width, bg.scale_w);
     let s = s_of(c.flip, column_of(image_x, bg.image_siz), image_width);
     Columns {
         split,

@@ -11,10 +11,10 @@ use Rattle.signed.specs.Bound.{some}
 use Rattle.signed.specs.Diff.{up, zdiff, zparts, zarith}
 use Rattle.signed.specs.Cast.{minZ}
 use Rattle.object.specs.declared.types.ObjBg.{ObjBg}
-use Rattle.object.specs.declared.types.Quarters.{Quarters}
+use Rattle.measures.specs.declared.types.Quarters.{Quarters}
 use Rattle.object.specs.declared.types.Scissor.{Scissor}
-use Rattle.object.specs.Measure.{quarters, thirtySeconds, texels, edge, wholeTexels, inQuarters}
-use Rattle.object.specs.Range.{Below, Within}
+use Rattle.measures.specs.Measure.{quarters, thirtySeconds, texels, edge, wholeTexels, inQuarters}
+use Rattle.measures.specs.Range.{Below, Within}
 use Rattle.checks.specs.Known.{PassedCopy}
 use Rattle.plan.specs.declared.types.Copy.{Copy}
 use Rattle.plan.specs.Copy.{copyCapacity, copyOf, copyEmpty}

@@ -4,13 +4,13 @@ ghost use Prim.Native.Nat.{_/_, _^_, _≤_, max};
 ghost use lib.IntN.{pos, _+ℤ_, _-ℤ_};
 ghost use Rattle.signed.specs.Diff.{up};
 ghost use Rattle.signed.specs.Cast.{minZ};
-ghost use Rattle.object.specs.Measure.{quarters, texels, edge, inQuarters};
-ghost use Rattle.object.specs.Range.{Below, Within};
+ghost use Rattle.measures.specs.Measure.{quarters, texels, edge, inQuarters};
+ghost use Rattle.measures.specs.Range.{Below, Within};
 ghost use Rattle.checks.specs.Known.{PassedCopy};
 ghost use Rattle.plan.specs.Copy.{copyEmpty};
 ghost use Rattle.strips.specs.Frame.{AtMost, AxisIs, CopyIs};
+use measures::Quarters;
 use object::ObjBg;
-use object::Quarters;
 use object::Scissor;
 use plan::Copy;
 
@@ -37,9 +37,9 @@ fn cells_in(frame: Quarters, size: Quarters, high: Quarters, near: Quarters) -> 
 {
     let end = frame.0 + size.0;
     if end <= high.0 {
-        object::texels(Quarters(end - near.0))
+        measures::texels(Quarters(end - near.0))
     } else {
-        object::texels(Quarters(high.0 - near.0))
+        measures::texels(Quarters(high.0 - near.0))
     }
 }
 
@@ -48,7 +48,7 @@ fn cells_before(frame: Quarters, near: Quarters) -> u64
     requires { ⌜ (Within 15 (frame .0)) × Below 15 (near .0) ⌝ }
     ensures { λ r. ⌜ AtMost (texels (up (near .0 -ℤ frame .0))) 16383 r ⌝ }
 {
-    object::texels(Quarters(near.0 - frame.0))
+    measures::texels(Quarters(near.0 - frame.0))
 }
 
 fn axis_of(frame: Quarters, size: Quarters, low: i32, high: i32) -> Axis
@@ -56,8 +56,8 @@ fn axis_of(frame: Quarters, size: Quarters, low: i32, high: i32) -> Axis
     requires { ⌜ (Below 10 low) × (Below 10 high) ⌝ }
     ensures { λ r. ⌜ AxisIs (frame .0) (quarters size) (edge low) (edge high) r ⌝ }
 {
-    let edge = near(frame, object::edge(low));
-    let cells = cells_in(frame, size, object::edge(high), edge);
+    let edge = near(frame, measures::edge(low));
+    let cells = cells_in(frame, size, measures::edge(high), edge);
     let skip = cells_before(frame, edge);
     Axis { edge, cells, skip }
 }
@@ -81,15 +81,15 @@ pub fn copy_of(bg: ObjBg, scissor: Scissor, address: u64) -> Copy
 {
     let across = axis_of(bg.frame_x, bg.frame_w, scissor.ulx, scissor.lrx);
     let down = axis_of(bg.frame_y, bg.frame_h, scissor.uly, scissor.lry);
-    let image_width = object::texels(bg.image_w);
-    let image_height = object::texels(bg.image_h);
-    let frame_cells = object::texels(bg.frame_w);
-    let source_x = object::whole_texels(bg.image_x);
-    let source_y = object::whole_texels(bg.image_y) + down.skip;
+    let image_width = measures::texels(bg.image_w);
+    let image_height = measures::texels(bg.image_h);
+    let frame_cells = measures::texels(bg.frame_w);
+    let source_x = measures::whole_texels(bg.image_x);
+    let source_y = measures::whole_texels(bg.image_y) + down.skip;
     let capacity = capacity::copy_capacity(bg.image_fmt, bg.image_siz);
     let texels_per_word = texels_per_word(bg.image_siz);
     let palette = signed::low8(bg.image_pal);
-    let rows = object::strip_lines(bg.tmem_h);
+    let rows = measures::strip_lines(bg.tmem_h);
     let left = across.edge;
     let top = down.edge;
     Copy {

@@ -1,11 +1,9 @@
 -- What callers may count on of the definitions, which stay shut to them.
 -- Assumes nothing.
 use mathlib.Core.Path.{_≡_, ap, _∙_}
-use mathlib.Core.Bool.{Bool, true, false}
 use mathlib.Core.Logic.{_≢_}
-use Prim.Native.Nat.{ℕ, _+_, _-_, _/_, _^_, _≤_, _<_, max}
+use Prim.Native.Nat.{ℕ, _+_, _-_, _/_, max}
 use native.Mathlib.Omega.{arith}
-use lib.Dec.{ltb}
 use lib.IntN.{ℤ, pos, negsuc, _+ℤ_, _-ℤ_}
 use lib.ListN.{getD}
 use lib.Seq.{getD-set-other}
@@ -13,9 +11,7 @@ use Rattle.signed.specs.Diff.{up, zdiff, zparts, zarith}
 use Rattle.signed.specs.Floor.{floorDiv}
 use Rattle.tile.specs.declared.bank.Tile.{Tile}
 use Rattle.tile.specs.declared.bank.Bank.{Bank}
-use Rattle.tile.specs.declared.load.LoadRequest.{LoadRequest}
 use Rattle.tile.specs.Bank.{blank, extent, setTile, setSize}
-use Rattle.tile.specs.Load.{pickRequest, strideOf, offsetOf, requestOf, rowsIn}
 
 -- D "the other seven tiles are unchanged"
 pub other-tile : (b : Bank) (i j : ℕ) (t : Tile) → j ≢ i → getD (setTile b i t .tiles) j blank ≡ getD (b .tiles) j blank
@@ -25,15 +21,6 @@ other-tile b i j t h = getD-set-other (b .tiles) i j _ blank h
 pub other-size : (b : Bank) (i j uls ult lrs lrt : ℕ) → j ≢ i → getD (setSize b i uls ult lrs lrt .tiles) j blank ≡ getD (b .tiles) j blank
 unfolding setSize
 other-size b i j uls ult lrs lrt h = getD-set-other (b .tiles) i j _ blank h
-
-rows-of : (t : Bool) (a b : LoadRequest) (m : ℕ) → rowsIn a ≤ m → rowsIn b ≤ m → rowsIn (pickRequest t a b) ≤ m
-rows-of true a b m h k = h
-rows-of false a b m h k = k
-
--- a request asks for at most 16,384 rows
-pub rows-in : (siz width address uls ult lrs lrt : ℕ) → lrt < 65536 → rowsIn (requestOf siz width address uls ult lrs lrt) ≤ 16384
-unfolding requestOf
-rows-in siz width address uls ult lrs lrt h = rows-of (ltb (address + offsetOf siz (strideOf siz width) uls ult) (2 ^ 64)) _ _ 16384 (omega arith) (omega arith)
 
 extent-from : (z : ℤ) → max 1 (up (floorDiv z 4 +ℤ pos 1)) ≡ up z / 4 + 1
 extent-from (pos n) = omega arith

@@ -14,8 +14,8 @@ use Rattle.signed.specs.Diff.{up, dn, zdiff, zparts, zarith}
 use Rattle.signed.specs.Floor.{floorDiv}
 use Rattle.signed.specs.Cast.{minZ}
 use Rattle.object.specs.declared.types.Verdict.the-variants as verdict
-use Rattle.object.specs.Measure.{whole}
-use Rattle.object.specs.Range.{Within}
+use Rattle.measures.specs.Measure.{whole}
+use Rattle.measures.specs.Range.{Within}
 use Rattle.plan.specs.declared.types.Scaled.{Scaled}
 use Rattle.plan.specs.declared.types.Source.{Source}
 use Rattle.plan.specs.declared.types.Walk.{Walk}

@@ -4,7 +4,7 @@ ghost use Prim.Native.Nat.{_+_, _*_, _≤_, _<_, _^_};
 ghost use lib.IntN.{pos};
 ghost use lib.Signed.{_≤ℤ_};
 ghost use Rattle.signed.specs.Diff.{up};
-ghost use Rattle.object.specs.Range.{Within};
+ghost use Rattle.measures.specs.Range.{Within};
 ghost use Rattle.plan.specs.Out.{planOut};
 ghost use Rattle.plan.specs.Sound.{SoundScaled};
 ghost use Rattle.plan.specs.Scaled.{drawOf, nextPass, afterDraw};
@@ -20,7 +20,7 @@ use loads::less;
 use loads::plus;
 use loads::sum;
 use loads::times;
-use object::ThirtySeconds;
+use measures::ThirtySeconds;
 use object::Verdict;
 use plan::Scaled;
 use plan::Source;
@@ -31,7 +31,7 @@ fn lines_due(count: i64) -> u64
     requires { ⌜ count ≤ℤ pos (2 ^ 31) ⌝ }
     ensures { λ r. ⌜ (r ≡ dueLines count) × (r ≤ 2 ^ 21) ⌝ }
 {
-    signed::positive(object::signed_whole(count))
+    signed::positive(measures::signed_whole(count))
 }
 
 // The walk before the next pass.
@@ -72,7 +72,7 @@ fn cut_rows(z: Scaled, rows: i64, left: i64) -> i64
     ensures { λ r. ⌜ r ≡ cutRows z rows left ⌝ }
 {
     if left < 0 {
-        let over = object::signed_whole(times(left, z.scale_h.0));
+        let over = measures::signed_whole(times(left, z.scale_h.0));
         let cut = plus(sum(rows, over), 1);
         let most = z.image_rows as i64;
         if cut <= most { cut } else { most }

@@ -8,7 +8,7 @@ use mir.Val.{SFits, toZ, ofZ}
 use borrow.Author.Needs.{needs}
 use Rattle.signed.specs.Diff.{up, zarith}
 use Rattle.signed.specs.Word.{rd, rdn}
-use Rattle.object.specs.Range.{below-read, counted-sum}
+use Rattle.measures.specs.Range.{below-read, counted-sum}
 use Rattle.copy.proofs.walk.cell_at.Statement.{statement}
 use Rattle.copy.proofs.walk.cell_at.Tie as tie
 

@@ -5,7 +5,7 @@ use mir.Syntax.{w64}
 use mir.Val.{SFits, toZ, ofZ}
 use Rattle.signed.specs.Diff.{zdiff, zarith}
 use Rattle.signed.specs.Word.{rd, rk}
-use Rattle.object.specs.Range.{below-read}
+use Rattle.measures.specs.Range.{below-read}
 use Rattle.first.specs.First.{imageOffset}
 use Rattle.first.proofs.first.image_offset.Statement.{statement}
 use Rattle.first.proofs.first.image_offset.Tie as tie

@@ -8,7 +8,7 @@ use mir.Val.{toZ, ofZ}
 use Rattle.signed.specs.Word.{rd, rdn, rk}
 use native.Mathlib.Omega.{arith}
 use Rattle.signed.specs.Diff.{zarith}
-use Rattle.object.specs.Range.{Within}
+use Rattle.measures.specs.Range.{Within}
 use Rattle.signed.specs.Floor.{modulo, modulo-lt}
 use Prim.Native.Nat.{_<_}
 use Rattle.loads.specs.Comes.{wider, read-in, less-in, plus-in, difference-in}

@@ -11,7 +11,7 @@ use Rattle.loads.specs.Comes.{wider, read-in, less-in}
 use Rattle.loads.specs.Kept.{remain-in}
 use Rattle.loads.specs.Enter.{rest-is, reaches-as}
 use Rattle.loads.specs.Coming.{loadableOf}
-use Rattle.object.specs.Range.{Within}
+use Rattle.measures.specs.Range.{Within}
 use Rattle.signed.specs.Diff.{zarith}
 use Rattle.loads.proofs.load.rest.Statement.{statement}
 use Rattle.loads.proofs.load.rest.Tie as tie

@@ -11,7 +11,7 @@ use Rattle.signed.specs.Diff.{zarith}
 use Rattle.signed.specs.Floor.{modulo, modulo-lt}
 use Rattle.loads.specs.Comes.{wider, read-in, less-in, times-in, floor-in}
 use Rattle.loads.specs.Coming.{loadableOf}
-use Rattle.object.specs.Range.{Within}
+use Rattle.measures.specs.Range.{Within}
 use Prim.Native.Nat.{_≤_, _<_}
 use Rattle.loads.proofs.load.split.Statement.{statement}
 use Rattle.loads.proofs.load.split.Tie as tie

@@ -11,7 +11,7 @@ use Rattle.loads.specs.Comes.{wider, read-in}
 use Rattle.loads.specs.Kept.{remain-in}
 use Rattle.loads.specs.Enter.{split-a-is, reaches-as}
 use Rattle.loads.specs.Coming.{splitRows}
-use Rattle.object.specs.Range.{Within}
+use Rattle.measures.specs.Range.{Within}
 use Rattle.loads.proofs.load.split_a.Statement.{statement}
 use Rattle.loads.proofs.load.split_a.Tie as tie
 

@@ -11,7 +11,7 @@ use Rattle.signed.specs.Diff.{zdiff, zarith}
 use Rattle.loads.specs.Comes.{wider, read-in, difference-in}
 use Rattle.loads.specs.Enter.{reaches-as, spare-sound}
 use Rattle.loads.specs.Coming.{splitRows, pieceOut}
-use Rattle.object.specs.Range.{Within}
+use Rattle.measures.specs.Range.{Within}
 use Rattle.loads.proofs.load.split_b.Statement.{statement}
 use Rattle.loads.proofs.load.split_b.Tie as tie
 

@@ -7,7 +7,7 @@ use mir.Syntax.{w64}
 use mir.Val.{toZ, ofZ}
 use Rattle.signed.specs.Word.{rk}
 use native.Mathlib.Omega.{arith}
-use Rattle.object.specs.Range.{Within}
+use Rattle.measures.specs.Range.{Within}
 use Rattle.loads.specs.Comes.{wider, read-in, less-in, times-in}
 use Rattle.loads.specs.Kept.{remain-in}
 use Rattle.loads.specs.Enter.{reaches-as, ended-as, split-1, split-2, split-3, split-4}

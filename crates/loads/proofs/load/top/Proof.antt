@@ -6,7 +6,7 @@ use mir.Syntax.{w64}
 use mir.Val.{toZ, ofZ}
 use native.Mathlib.Omega.{arith}
 use Rattle.signed.specs.Word.{rk}
-use Rattle.object.specs.Range.{Within}
+use Rattle.measures.specs.Range.{Within}
 use Rattle.loads.specs.Comes.{wider, read-in, plus-in}
 use Rattle.loads.specs.Kept.{rows-in}
 use Rattle.loads.specs.Enter.{reaches-as, wraps-is}

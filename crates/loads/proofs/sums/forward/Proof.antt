@@ -9,7 +9,7 @@ use mir.Val.{toZ, ofZ}
 use Rattle.signed.specs.Bound.{fits-mul}
 use Rattle.signed.specs.Diff.{zarith}
 use Rattle.signed.specs.Word.{rdn, rk}
-use Rattle.object.specs.Range.{Within}
+use Rattle.measures.specs.Range.{Within}
 use Rattle.loads.specs.declared.types.Sum.the-variants as sum
 use Rattle.loads.specs.Comes.{wider, read-in}
 use Rattle.loads.specs.Loads.{advance-by-on}

@@ -7,7 +7,7 @@ use native.Mathlib.Omega.{arith}
 use Rattle.signed.specs.Diff.{zarith}
 use Prim.Native.Nat.{_+_, _*_, _≤_}
 use native.Mathlib.Nat.{mul-le-mul}
-use Rattle.object.specs.Range.{Within}
+use Rattle.measures.specs.Range.{Within}
 use Rattle.loads.specs.Comes.{read-in}
 use Rattle.passes.specs.Given.{start-at, start-refused}
 use Rattle.passes.proofs.step.scaled_start.Statement.{statement}

@@ -4,7 +4,7 @@ use native.Mathlib.Omega.{arith}
 use lib.Seq.{length-take-le}
 use Rattle.giving.specs.Host.{bankNumbers}
 use Rattle.replay.specs.Steps.{steppedFrom}
-use Rattle.replay.proofs.Banks.{bank-fits}
+use Rattle.banks.proofs.Banks.{bank-fits}
 use Rattle.replay.proofs.Outcomes.{room}
 use Rattle.replay.proofs.Stepping.{passable, mixed-is}
 use borrow.Author.Needs.{needs}

@@ -3,8 +3,8 @@ use borrow.Author.Needs.{needs}
 use mathlib.Core.Path.{_≡_}
 use lib.IntN.{pos}
 use Rattle.signed.specs.Diff.{zarith}
-use Rattle.object.specs.Measure.{edge, inQuarters}
-use Rattle.object.specs.Range.{Below}
+use Rattle.measures.specs.Measure.{edge, inQuarters}
+use Rattle.measures.specs.Range.{Below}
 use Rattle.scaled.specs.Range.{reads-edge, extent-le}
 use Rattle.scaled.proofs.clip.across.Statement.{statement}
 use Rattle.scaled.proofs.clip.across.Tie as tie

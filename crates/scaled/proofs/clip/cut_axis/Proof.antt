@@ -6,7 +6,7 @@ use mir.Syntax.{w64}
 use mir.Val.{SFits, toZ, ofZ}
 use Rattle.signed.specs.Diff.{zdiff, zarith}
 use Rattle.signed.specs.Word.{rd}
-use Rattle.object.specs.Measure.{quarters}
+use Rattle.measures.specs.Measure.{quarters}
 use Rattle.scaled.specs.Clip.{nearCut, farCut, startAt, restOf}
 use Rattle.scaled.proofs.clip.cut_axis.Statement.{statement}
 use Rattle.scaled.proofs.clip.cut_axis.Tie as tie

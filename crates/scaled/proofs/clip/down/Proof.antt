@@ -3,7 +3,7 @@ use borrow.Author.Needs.{needs}
 use mathlib.Core.Path.{_≡_}
 use lib.IntN.{pos}
 use Rattle.signed.specs.Diff.{zarith}
-use Rattle.object.specs.Measure.{edge, inQuarters}
+use Rattle.measures.specs.Measure.{edge, inQuarters}
 use Rattle.scaled.specs.Range.{reads-edge}
 use Rattle.scaled.proofs.clip.down.Statement.{statement}
 use Rattle.scaled.proofs.clip.down.Tie as tie

@@ -7,8 +7,8 @@ use mir.Syntax.{w64}
 use mir.Val.{SFits, toZ, ofZ}
 use Rattle.signed.specs.Diff.{zdiff, zparts, zarith}
 use Rattle.signed.specs.Word.{rd}
-use Rattle.object.specs.Measure.{quarters, extent}
-use Rattle.object.specs.Range.{counted, below-read}
+use Rattle.measures.specs.Measure.{quarters, extent}
+use Rattle.measures.specs.Range.{counted, below-read}
 use Rattle.scaled.specs.Clip.{farCut}
 use Rattle.scaled.proofs.clip.far_cut.Statement.{statement}
 use Rattle.scaled.proofs.clip.far_cut.Tie as tie

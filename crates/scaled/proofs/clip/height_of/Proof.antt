@@ -8,9 +8,9 @@ use mir.Syntax.{w64}
 use mir.Val.{SFits, toZ, ofZ}
 use Rattle.signed.specs.Diff.{ge-dn, zarith}
 use Rattle.signed.specs.Word.{rd}
-use Rattle.object.specs.declared.types.Quarters.{Quarters}
-use Rattle.object.specs.Measure.{quarters, inQuarters}
-use Rattle.object.specs.Range.{counted, below-read}
+use Rattle.measures.specs.declared.types.Quarters.{Quarters}
+use Rattle.measures.specs.Measure.{quarters, inQuarters}
+use Rattle.measures.specs.Range.{counted, below-read}
 use Rattle.scaled.specs.Clip.{lower}
 use Rattle.scaled.proofs.clip.height_of.Statement.{statement}
 use Rattle.scaled.proofs.clip.height_of.Tie as tie

@@ -9,7 +9,7 @@ use mir.Syntax.{w64}
 use mir.Val.{SFits, toZ, ofZ}
 use Rattle.signed.specs.Diff.{zdiff, zarith}
 use Rattle.signed.specs.Word.{rd, rk}
-use Rattle.object.specs.Measure.{quarters, shownAt, inQuarters}
+use Rattle.measures.specs.Measure.{quarters, shownAt, inQuarters}
 use Rattle.scaled.specs.Clip.{greatest}
 use Rattle.scaled.specs.Number.{cleared}
 use Rattle.scaled.specs.Range.{extent-le}

@@ -6,8 +6,8 @@ use mir.Syntax.{w64}
 use mir.Val.{SFits, toZ, ofZ}
 use Rattle.signed.specs.Diff.{ge-dn, zdiff, zarith}
 use Rattle.signed.specs.Word.{rd}
-use Rattle.object.specs.Measure.{quarters, inQuarters}
-use Rattle.object.specs.Range.{counted, below-read}
+use Rattle.measures.specs.Measure.{quarters, inQuarters}
+use Rattle.measures.specs.Range.{counted, below-read}
 use Rattle.scaled.specs.Clip.{moved}
 use Rattle.scaled.specs.Number.{add-nothing}
 use Rattle.scaled.proofs.clip.x_of.Statement.{statement}

@@ -5,7 +5,7 @@ use mir.Val.{toZ, ofZ}
 use lib.Dec.{lit≤}
 use Rattle.signed.specs.Diff.{zdiff, zarith}
 use Rattle.signed.specs.Word.{rd}
-use Rattle.object.specs.Range.{below-read}
+use Rattle.measures.specs.Range.{below-read}
 use Rattle.scaled.proofs.measure.sum.Statement.{statement}
 use Rattle.scaled.proofs.measure.sum.Tie as tie
 

@@ -3,8 +3,8 @@ use mathlib.Core.Path.{ap, _∙_}
 use Prim.Native.Nat.{_≤_, _*_}
 use native.Mathlib.Omega.{arith}
 use Rattle.signed.specs.Diff.{zarith}
-use Rattle.object.specs.Measure.{quarters, sampledBy, inThirtySeconds}
-use Rattle.object.specs.Range.{counted-sum}
+use Rattle.measures.specs.Measure.{quarters, sampledBy, inThirtySeconds}
+use Rattle.measures.specs.Range.{counted-sum}
 use Rattle.scaled.specs.Number.{sampled-le}
 use Rattle.scaled.specs.Range.{extent-le}
 use Rattle.scaled.proofs.start.position_after.Statement.{statement}

@@ -7,7 +7,7 @@ use native.Mathlib.Omega.{arith}
 use lib.IntN.{pos}
 use Rattle.signed.specs.Diff.{zarith}
 use Rattle.signed.specs.Word.{rdn}
-use Rattle.object.specs.Measure.{quarters, thirtySeconds, ofRows, inImage, sampledBy, inThirtySeconds}
+use Rattle.measures.specs.Measure.{quarters, thirtySeconds, ofRows, inImage, sampledBy, inThirtySeconds}
 use Rattle.plan.specs.declared.types.Start.{Start}
 use Rattle.plan.specs.Scaled.{startOf}
 use Rattle.scaled.specs.Range.{StartIn, extent-le, chosen-in}

@@ -5,7 +5,7 @@ use Prim.Native.Nat.{_-_, _/_, _%_, _^_, _<_}
 use native.Mathlib.Omega.{arith}
 use native.Mathlib.Nat.{mod-lt}
 use lib.Bits.{bitAnd}
-use Rattle.object.specs.Measure.{thirtySeconds}
+use Rattle.measures.specs.Measure.{thirtySeconds}
 use Rattle.scaled.specs.Number.{shift-range, mask-is}
 use Rattle.scaled.specs.Strip.{shiftOf}
 use Rattle.scaled.proofs.strip.column_of.Statement.{statement}

@@ -5,8 +5,8 @@ use Prim.Native.Nat.{_+_}
 use native.Mathlib.Omega.{arith}
 use lib.IntN.{pos}
 use Rattle.signed.specs.Diff.{zarith}
-use Rattle.object.specs.Measure.{quarters, thirtySeconds, ofRows, sampledBy, inThirtySeconds}
-use Rattle.object.specs.Range.{counted-sum}
+use Rattle.measures.specs.Measure.{quarters, thirtySeconds, ofRows, sampledBy, inThirtySeconds}
+use Rattle.measures.specs.Range.{counted-sum}
 use Rattle.scaled.specs.Number.{sampled-le}
 use Rattle.scaled.specs.Range.{extent-le}
 use Rattle.scaled.proofs.strip.columns_of.Statement.{statement}

@@ -6,8 +6,8 @@ use mir.Syntax.{w64}
 use mir.Val.{toZ, ofZ}
 use Rattle.signed.specs.Diff.{ge-dn, zdiff, zarith}
 use Rattle.signed.specs.Word.{rd}
-use Rattle.object.specs.Measure.{thirtySeconds, inThirtySeconds}
-use Rattle.object.specs.Range.{counted, below-read}
+use Rattle.measures.specs.Measure.{thirtySeconds, inThirtySeconds}
+use Rattle.measures.specs.Range.{counted, below-read}
 use Rattle.scaled.specs.Strip.{sOf}
 use Rattle.scaled.proofs.strip.s_of.Statement.{statement}
 use Rattle.scaled.proofs.strip.s_of.Tie as tie

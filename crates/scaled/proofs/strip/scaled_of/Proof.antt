@@ -8,8 +8,8 @@ use mir.Syntax.{w64}
 use mir.Val.{toZ, ofZ}
 use Rattle.signed.specs.Diff.{zdiff, zarith}
 use Rattle.signed.specs.Word.{rd}
-use Rattle.object.specs.Measure.{inQuarters}
-use Rattle.object.specs.Range.{below-read}
+use Rattle.measures.specs.Measure.{inQuarters}
+use Rattle.measures.specs.Range.{below-read}
 use Rattle.plan.specs.declared.types.Scaled.{Scaled}
 use Rattle.plan.specs.Scaled.{scaledOf, slicesBad}
 use Rattle.plan.specs.Sound.{SoundScaled}

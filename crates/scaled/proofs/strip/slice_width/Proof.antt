@@ -6,7 +6,7 @@ use native.Mathlib.Omega.{arith}
 use lib.IntN.{pos}
 use Rattle.signed.specs.Diff.{zarith}
 use Rattle.signed.specs.Word.{rdn}
-use Rattle.object.specs.Measure.{quarters, ofRows, sampledBy, inThirtySeconds}
+use Rattle.measures.specs.Measure.{quarters, ofRows, sampledBy, inThirtySeconds}
 use Rattle.scaled.specs.Number.{sampled-le}
 use Rattle.scaled.specs.Range.{extent-le}
 use Rattle.scaled.proofs.strip.slice_width.Statement.{statement}

@@ -3,7 +3,7 @@ use borrow.Author.Needs.{needs}
 use mathlib.Core.Path.{_≡_, sym, _∙_}
 use Prim.Native.Nat.{_≤_}
 use Rattle.signed.specs.Diff.{zarith}
-use Rattle.object.specs.Measure.{quarters}
+use Rattle.measures.specs.Measure.{quarters}
 use Rattle.loads.specs.declared.types.Reached.{Reached}
 use Rattle.scaled.specs.Range.{usable, near}
 use Rattle.planner.specs.Coming.{StartsScaled, courseOf}

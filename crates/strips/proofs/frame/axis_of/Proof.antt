@@ -5,8 +5,8 @@ use mir.Syntax.{w32}
 use mir.ValLaws.{toZ-ofZ}
 use borrow.Author.Needs.{needs}
 use Rattle.signed.specs.Diff.{zarith}
-use Rattle.object.specs.Measure.{edge, inQuarters}
-use Rattle.object.specs.Range.{counted}
+use Rattle.measures.specs.Measure.{edge, inQuarters}
+use Rattle.measures.specs.Range.{counted}
 use Rattle.strips.specs.Frame.{axis-is}
 use Rattle.strips.proofs.frame.axis_of.Statement.{statement}
 use Rattle.strips.proofs.frame.axis_of.Tie as tie

@@ -8,7 +8,7 @@ use mir.Val.{SFits, toZ, ofZ}
 use borrow.Author.Needs.{needs}
 use Rattle.signed.specs.Diff.{up, zdiff, zparts, zarith}
 use Rattle.signed.specs.Word.{rd}
-use Rattle.object.specs.Range.{below-read}
+use Rattle.measures.specs.Range.{below-read}
 use Rattle.strips.proofs.frame.cells_before.Statement.{statement}
 use Rattle.strips.proofs.frame.cells_before.Tie as tie
 

@@ -6,7 +6,7 @@ use mir.Val.{SFits, toZ, ofZ}
 use borrow.Author.Needs.{needs}
 use Rattle.signed.specs.Diff.{zdiff, zarith}
 use Rattle.signed.specs.Word.{rd}
-use Rattle.object.specs.Range.{below-read}
+use Rattle.measures.specs.Range.{below-read}
 use Rattle.strips.proofs.frame.cells_in.Statement.{statement}
 use Rattle.strips.proofs.frame.cells_in.Tie as tie
 

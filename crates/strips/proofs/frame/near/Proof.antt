@@ -7,8 +7,8 @@ use mir.Syntax.{w64}
 use mir.Val.{SFits, toZ, ofZ}
 use Rattle.signed.specs.Diff.{ge-dn, zarith}
 use Rattle.signed.specs.Word.{rd}
-use Rattle.object.specs.Measure.{quarters, inQuarters}
-use Rattle.object.specs.Range.{counted, below-read}
+use Rattle.measures.specs.Measure.{quarters, inQuarters}
+use Rattle.measures.specs.Range.{counted, below-read}
 use Rattle.plan.specs.Ties.{larger}
 use Rattle.strips.proofs.frame.near.Statement.{statement}
 use Rattle.strips.proofs.frame.near.Tie as tie

@@ -7,7 +7,7 @@ use mir.Syntax.{w64}
 use mir.Val.{toZ, ofZ}
 use Rattle.signed.specs.Word.{rd, rdn, rk}
 use Rattle.signed.specs.Floor.{floorDiv}
-use Rattle.object.specs.Range.{Within}
+use Rattle.measures.specs.Range.{Within}
 use Rattle.loads.specs.Comes.{wider, times-in, floor-in, sum-in}
 use Rattle.walks.proofs.walk.cut_rows.Statement.{statement}
 use Rattle.walks.proofs.walk.cut_rows.Tie as tie

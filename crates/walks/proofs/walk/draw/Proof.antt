@@ -5,7 +5,7 @@ use mir.Syntax.{w64}
 use mir.Val.{toZ, ofZ}
 use Rattle.signed.specs.Word.{rk}
 use native.Mathlib.Omega.{arith}
-use Rattle.object.specs.Range.{Within}
+use Rattle.measures.specs.Range.{Within}
 use Rattle.plan.specs.Scaled.{drawOf, leftAfter, linesOf, rowsOf}
 use Rattle.loads.specs.Comes.{wider, read-in, less-in}
 use Rattle.loads.specs.Kept.{slice-in}

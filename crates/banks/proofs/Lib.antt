@@ -1,0 +1,2 @@
+-- A bank as words and out of words.
+pub mod Banks

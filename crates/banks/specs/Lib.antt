@@ -1,0 +1,2 @@
+-- Entries that leave a bank whose numbers fit their fields.
+pub mod Narrows

@@ -1,0 +1,2 @@
+-- Products that fit.
+pub mod Product

@@ -1,0 +1,3 @@
+-- The load request.
+pub mod Load
+pub mod Rows

@@ -1,0 +1,3 @@
+-- The three measures, and ranges of signed numbers.
+pub mod Measure
+pub mod Range
