@@ -5,7 +5,7 @@
 
 ORACLE is the program that differential/build makes, CASES the folder that `oracle --cases` writes, RECORDS the list of crates/replay, in which
 the sample records stand after document 01's cases. Every expected number comes from the oracle's output, and what document 01 says of its
-cases from SAID below. `differential/run cases` runs this, and `differential/run remade` holds the files against it.
+cases from SAID below. `differential/run cases` runs this, and `differential/run answers` holds the files against it.
 """
 import struct, subprocess, sys
 

@@ -39,7 +39,7 @@ pub extern "C" fn bg_run(
         &mut *bank,
         &mut *plan,
     );
-    settling::end_into(&mut *end, ended);
+    giving::end_into(&mut *end, ended);
     0
 }
 
@@ -56,6 +56,6 @@ pub extern "C" fn bg_count(object: &[u8], request: &[u64], end: &mut [u64]) -> u
     }
     let q = request::from_words(request);
     let ended = runs::count(object, q.opcode, q.scissor, q.mode, q.address);
-    settling::end_into(&mut *end, ended);
+    giving::end_into(&mut *end, ended);
     0
 }

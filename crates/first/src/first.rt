@@ -7,7 +7,7 @@ ghost use mir.Syntax.{w64};
 ghost use mir.Val.{SFits};
 ghost use Rattle.measures.specs.Range.{Below};
 ghost use Rattle.plan.specs.Sound.{SoundScaled};
-ghost use Rattle.scaled.specs.Range.{Near, FirstIs};
+ghost use Rattle.first.specs.Near.{Near, FirstIs};
 ghost use Rattle.first.specs.First.{imageOffset, frameOffset, sliceStart, hiddenOf, countOf, imageRow, CutIs};
 use measures::Scale;
 use measures::ThirtySeconds;

@@ -5,7 +5,7 @@ use mathlib.Core.Path.{_≡_}
 use Prim.Native.Nat.{ℕ, _^_, _≤_, _<_}
 use lib.IntN.{ℤ, pos, negℤ}
 use lib.Signed.{_≤ℤ_}
-use mir.Syntax.{w32, w64}
+use mir.Syntax.{w32}
 use mir.Val.{SFits, toZ, ofZ}
 use mir.ValLaws.{toZ-ofZ}
 use Rattle.signed.specs.Diff.{up, zarith}
@@ -18,9 +18,8 @@ use Rattle.checks.specs.Known.{InRange, PassedScaled}
 use Rattle.plan.specs.declared.types.Clip.{Clip}
 use Rattle.plan.specs.declared.types.Start.{Start}
 use Rattle.plan.specs.declared.types.Scaled.{Scaled}
-use Rattle.plan.specs.declared.types.First.{First}
-use Rattle.plan.specs.Scaled.{clipOf, scaledEmpty, startOf, scaledOf, slicesBad, firstOf}
-use Rattle.plan.specs.Sound.{SoundScaled, SoundFirst}
+use Rattle.plan.specs.Scaled.{clipOf, scaledEmpty, startOf, scaledOf, slicesBad}
+use Rattle.plan.specs.Sound.{SoundScaled}
 
 -- an object that passed the checks, whatever the scissor
 pub record Usable (bg : ObjBg) : Type 0 where
@@ -77,22 +76,9 @@ pub record ScaledIs (bg : ObjBg) (mode address : ℕ) (c : Clip) (i : Start) (z 
   pub is : z ≡ scaledOf bg mode address c i
   pub sound : slicesBad z ≡ false → SoundScaled z
 
--- what the first strip needs of the start
-pub record Near (i : Start) : Type 0 where
-  pub image-y : Below 20 (i .«image_y» .0)
-  pub low : negℤ (pos (2 ^ 33)) ≤ℤ i .origin .0
-  pub high : i .origin .0 ≤ℤ pos (2 ^ 33)
-
-pub record FirstIs (z : Scaled) (i : Start) (f : First) : Type 0 where
-  pub is : f ≡ firstOf z i
-  pub sound : SoundFirst z f
-
 -- what the fields' bits read as
 pub reads-edge : {z : ℤ} → Below 10 z → toZ w32 (ofZ w32 z) ≡ z
 reads-edge {z} r = let b : SFits w32 z = omega zarith in toZ-ofZ w32 z b
-
-pub reads49 : {z : ℤ} → negℤ (pos (2 ^ 49)) ≤ℤ z → z ≤ℤ pos (2 ^ 49) → toZ w64 (ofZ w64 z) ≡ z
-reads49 {z} l h = let b : SFits w64 z = omega zarith in toZ-ofZ w64 z b
 
 -- edges and extents as numbers
 pub edge-le : {z : ℤ} → Below 10 z → edge z ≤ 4092
@@ -105,7 +91,3 @@ extent-le {z} r = omega zarith
 pub chosen-in : (t : Bool) {a b : Quarters} → Below 16 (a .0) → Below 16 (b .0) → Below 16 (cond t a b .0)
 chosen-in true h k = h
 chosen-in false h k = k
-
--- a start in an image is near enough for the first strip
-pub near : {bg : ObjBg} {i : Start} → StartIn bg i → Near i
-near s = record { image-y = s .image-y; low = s .low; high = s .high }

@@ -12,6 +12,7 @@ use Rattle.object.specs.declared.types.Verdict.the-variants as verdict
 use Rattle.object.specs.declared.types.Checked.the-variants as checked
 use Rattle.checks.specs.Check.{checkedOf}
 use Rattle.plan.specs.declared.types.Scaled.{Scaled}
+use Rattle.plan.specs.declared.types.Start.{Start}
 use Rattle.plan.specs.declared.types.End.{End}
 use Rattle.plan.specs.Request.{Request}
 use Rattle.plan.specs.Out.{Plan, yield, refuse, planOut}
@@ -22,6 +23,8 @@ use Rattle.plan.specs.Whole.{copyOut, scaledOut, checkedOut, planWith, planOf}
 use Rattle.plan.specs.Sound.{SoundCopy}
 use Rattle.plan.specs.Run.{endOf}
 use Rattle.plan.specs.Steps.{Coming}
+use Rattle.scaled.specs.Range.{StartIn}
+use Rattle.first.specs.Near.{Near}
 use Rattle.copy.specs.declared.types.Place.{Place}
 use Rattle.copy.specs.declared.types.Stage.{Stage}
 use Rattle.copy.specs.declared.types.Stage.the-variants as stage
@@ -143,3 +146,7 @@ module _ (bytes : List ℕ) (opcode : ℕ) (s : Scissor) (mode address : ℕ) wh
         ∙ sym (end-of (comingCourse (p .course)))
         ∙ ap (λ (n : Counts). endWith (countedAll n (comingCourse (p .course) .entries)) (comingCourse (p .course) .verdict)) (sym (f .counts))
         ∙ ap (λ (c : Coming). c .end) (f .coming)
+
+-- a start in an image is near enough for the first strip
+pub near : {bg : ObjBg} {i : Start} → StartIn bg i → Near i
+near s = record { image-y = s .image-y; low = s .low; high = s .high }

@@ -13,7 +13,7 @@ use Rattle.plan.specs.declared.types.First.{First}
 use Rattle.plan.specs.Scaled.{firstOf}
 use Rattle.plan.specs.Sound.{SoundFirst}
 use Rattle.first.specs.First.{sliceStart, sliceOf, startOfSlice}
-use Rattle.scaled.specs.Range.{reads49}
+use Rattle.first.specs.Near.{reads49}
 use Rattle.first.specs.FirstLaw.{row-in, firstFrom, first-from, first-sound}
 use Rattle.first.proofs.first.first_of.Statement.{statement}
 use Rattle.first.proofs.first.first_of.Tie as tie

@@ -5,9 +5,9 @@ use Prim.Native.Nat.{_≤_}
 use Rattle.signed.specs.Diff.{zarith}
 use Rattle.measures.specs.Measure.{quarters}
 use Rattle.loads.specs.declared.types.Reached.{Reached}
-use Rattle.scaled.specs.Range.{usable, near}
+use Rattle.scaled.specs.Range.{usable}
 use Rattle.planner.specs.Coming.{StartsScaled, courseOf}
-use Rattle.starts.specs.Start.{scaled-none, scaled-bad, scaled-begins}
+use Rattle.starts.specs.Start.{near, scaled-none, scaled-bad, scaled-begins}
 use Rattle.starts.proofs.start.scaled_course.Statement.{statement}
 use Rattle.starts.proofs.start.scaled_course.Tie as tie
 

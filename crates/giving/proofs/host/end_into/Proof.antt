@@ -1,9 +1,9 @@
--- `settling::host::end_into` meets its contract: four numbers fill the four words. Assumes nothing.
+-- `giving::host::end_into` meets its contract: four numbers fill the four words. Assumes nothing.
 use Rattle.giving.specs.Host.{endNumbers}
 use Rattle.words.proofs.Pasted.{filled}
 use borrow.Author.Needs.{needs}
-use Rattle.settling.proofs.host.end_into.Statement.{statement}
-use Rattle.settling.proofs.host.end_into.Tie as tie
+use Rattle.giving.proofs.host.end_into.Statement.{statement}
+use Rattle.giving.proofs.host.end_into.Tie as tie
 
 number-requires : tie.Need-number-requires
 number-requires c κs = search needs
