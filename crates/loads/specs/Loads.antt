@@ -24,7 +24,6 @@ use Rattle.plan.specs.Scaled.{tile7, loadPart, load1cycTile, back, fromTop, spl
 use Rattle.loads.specs.Comes.{times-comm}
 use Rattle.loads.specs.declared.types.Sum.{Sum}
 use Rattle.loads.specs.Coming.{sumOut, loadableOf, splitRows, splitFrom, splitWidth, restOut, wholeOut}
-use Rattle.loads.specs.declared.types.Piece.the-variants as piece
 
 -- an entry in front, and a refusal
 pub emit-first : {A : Type 0} (e : Entry) (o : Out A) (k : A → Out (Unit {0})) → planOut ((emit e >> o) >>= k) ≡ cons e (planOut (o >>= k))

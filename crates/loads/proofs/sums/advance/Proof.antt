@@ -11,8 +11,6 @@ use Rattle.loads.specs.Comes.{difference-in, times-in, plus-in, wider, r
 use Rattle.loads.specs.Loads.{advance-by-on, advance-by-wrap}
 use Rattle.loads.proofs.sums.advance.Statement.{statement}
 use Rattle.loads.proofs.sums.advance.Tie as tie
-use Rattle.loads.proofs.sums.advance.Reads as reads
-use Rattle.loads.proofs.sums.advance.Lts as lts
 
 -- what the two row counts read as
 remain-is : (c : tie.Start) → toZ w64 (ofZ w64 (c .args .source .remain)) ≡ c .args .source .remain
