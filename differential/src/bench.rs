@@ -243,7 +243,7 @@ fn print_runs(groups: &[Group], rounds: usize, proved: &mut Proved, original: &m
     }
 }
 
-/// Plans a second of `bg_count` and of `bg_run`, for typical, random and the largest plans.
+/// Plans a second of `visor_count` and of `visor_run`, for typical, random and the largest plans.
 fn print_counts(groups: &[Group], rounds: usize, proved: &mut Proved) {
     println!(
         "\n{:<25}{:>9}{:>13}{:>13}{:>7}\n{:<25}{:>9}{:>13}{:>13}{:>7}",

@@ -5,7 +5,7 @@ pub const BANK_WORDS: usize = 136;
 pub const END_WORDS: usize = 4;
 
 extern "C" {
-    fn bg_run(
+    fn visor_run(
         object: *const u8,
         object_len: usize,
         request: *const u64,
@@ -17,7 +17,7 @@ extern "C" {
         end: *mut u64,
         end_len: usize,
     ) -> u64;
-    fn bg_count(
+    fn visor_count(
         object: *const u8,
         object_len: usize,
         request: *const u64,
@@ -40,7 +40,7 @@ pub fn run(
     // and writes inside these lengths only, which is proved, and it keeps no pointer. The slices
     // that it writes are borrowed for writing, so no two of them overlap.
     unsafe {
-        bg_run(
+        visor_run(
             object.as_ptr(),
             object.len(),
             request.as_ptr(),
@@ -60,7 +60,7 @@ pub fn run(
 pub fn count(object: &[u8], request: &[u64], end: &mut [u64]) -> u64 {
     // SAFETY: as for `run`.
     unsafe {
-        bg_count(
+        visor_count(
             object.as_ptr(),
             object.len(),
             request.as_ptr(),

@@ -10,7 +10,7 @@ const PROGRAM: &str = r#"
 /* How many words of a bank, all ones before, a run has set. */
 static int set_words(const uint64_t *bank) {
     int n = 0;
-    for (int i = 0; i < BG_BANK_WORDS; i++) n += bank[i] != UINT64_MAX;
+    for (int i = 0; i < VISOR_BANK_WORDS; i++) n += bank[i] != UINT64_MAX;
     return n;
 }
 
@@ -19,19 +19,19 @@ int main(void) {
     object[3] = 64; object[7] = 64; object[11] = 8; object[15] = 8;
     object[20] = 0xff; object[21] = 0xf4; object[23] = 2;
     object[31] = 8; object[33] = 8; object[37] = 1;
-    uint64_t request[BG_REQUEST_WORDS] = {10, 0, 0, 320, 240, 0, 4096};
-    uint64_t bank[BG_BANK_WORDS];
-    for (int i = 0; i < BG_BANK_WORDS; i++) bank[i] = UINT64_MAX;
-    uint64_t plan[6 * BG_ENTRY_WORDS];
-    uint64_t end[BG_END_WORDS];
-    uint64_t status = bg_run(object, 39, request, BG_REQUEST_WORDS, bank, BG_BANK_WORDS,
-                             plan, 6 * BG_ENTRY_WORDS, end, BG_END_WORDS);
+    uint64_t request[VISOR_REQUEST_WORDS] = {10, 0, 0, 320, 240, 0, 4096};
+    uint64_t bank[VISOR_BANK_WORDS];
+    for (int i = 0; i < VISOR_BANK_WORDS; i++) bank[i] = UINT64_MAX;
+    uint64_t plan[6 * VISOR_ENTRY_WORDS];
+    uint64_t end[VISOR_END_WORDS];
+    uint64_t status = visor_run(object, 39, request, VISOR_REQUEST_WORDS, bank, VISOR_BANK_WORDS,
+                             plan, 6 * VISOR_ENTRY_WORDS, end, VISOR_END_WORDS);
     printf("%d %d %d\n", (int)status, (int)end[0], set_words(bank));
-    status = bg_run(object, 40, request, BG_REQUEST_WORDS, bank, BG_BANK_WORDS,
-                    plan, 6 * BG_ENTRY_WORDS, end, BG_END_WORDS);
+    status = visor_run(object, 40, request, VISOR_REQUEST_WORDS, bank, VISOR_BANK_WORDS,
+                    plan, 6 * VISOR_ENTRY_WORDS, end, VISOR_END_WORDS);
     printf("%d %d %d %d %d\n", (int)status, (int)end[0], (int)end[1], (int)end[2], (int)end[3]);
     printf("%d\n", set_words(bank));
-    status = bg_count(object, 40, request, BG_REQUEST_WORDS, end, BG_END_WORDS);
+    status = visor_count(object, 40, request, VISOR_REQUEST_WORDS, end, VISOR_END_WORDS);
     printf("%d %d %d %d %d\n", (int)status, (int)end[0], (int)end[1], (int)end[2], (int)end[3]);
     return 0;
 }

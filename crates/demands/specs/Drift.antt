@@ -22,7 +22,7 @@ use Rattle.giving.specs.Host.{endNumbers, runWords, run-end, run-buffer}
 use Rattle.planner.specs.Coming.{Fresh, requestOf}
 use Rattle.runs.specs.Ran.{RanIs}
 use Rattle.request.specs.Host.{hostRequest}
-use Rattle.export.specs.Host.{left, ranLeft, hostRun}
+use Rattle.visorlongan.specs.Host.{left, ranLeft, hostRun}
 use Rattle.demands.specs.Steps.{Steps, StepsAlone, with-bank, answered-is}
 
 module _ (bytes : List ℕ) (opcode : ℕ) (scissor : Scissor) (mode address : ℕ) (apt : Apt (requestOf bytes opcode scissor mode address)) where

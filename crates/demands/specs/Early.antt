@@ -34,8 +34,8 @@ use Rattle.plan.specs.Copy.{stripEntries, strip, stripOf, columns, rows, copyEm
 use Rattle.plan.specs.Scaled.{loadPart, load1cycTile, back, fromTop, splitRow, upToEnd, advance, load1cyc, drawPass, idlePass, drawOf, pass, passes, clipOf, scaledEmpty, startOf, scaledOf, slicesBad, firstOf, scaledPlan}
 use Rattle.plan.specs.Whole.{copyOut, scaledOut, checkedOut, planWith, planOf}
 use Rattle.request.specs.Host.{hostRequest}
-use Rattle.export.specs.Host.{hostRun}
-use Rattle.export.specs.Laws.{host-nothing}
+use Rattle.visorlongan.specs.Host.{hostRun}
+use Rattle.visorlongan.specs.Laws.{host-nothing}
 
 -- an outcome that, if it stops, stops with 7 or more
 abbrev LateOut : {A : Type 0} → Out A → Type 0

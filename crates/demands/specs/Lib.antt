@@ -5,4 +5,5 @@ pub mod Loads
 pub mod Early
 pub mod Small
 pub mod SmallPlans
+pub mod Applied
 pub mod Columns

@@ -105,7 +105,7 @@ pub fn set_words(bank: &mut [u64], e: Entry)
 }
 
 // Sets a tile by the entry at a place of the plan, behind its kind and its index.
-fn tile_at(bank: &mut [u64], index: u64, plan: &[u64], place: usize)
+pub fn tile_at(bank: &mut [u64], index: u64, plan: &[u64], place: usize)
     requires { ⌜ place + 9 < length (now plan) ⌝ }
     ensures { λ _. ⌜ now (bank .exit) ≡ tileAt (now (bank .entry)) index (now (plan .entry)) place ⌝ }
 {
@@ -125,7 +125,7 @@ fn tile_at(bank: &mut [u64], index: u64, plan: &[u64], place: usize)
 }
 
 // Sets a tile's bounds by the size or the load at a place of the plan.
-fn bounds_at(bank: &mut [u64], index: u64, plan: &[u64], place: usize)
+pub fn bounds_at(bank: &mut [u64], index: u64, plan: &[u64], place: usize)
     requires { ⌜ BoundsIn (now plan) place ⌝ }
     ensures { λ _. ⌜ now (bank .exit) ≡ boundsAt (now (bank .entry)) index (now (plan .entry)) place ⌝ }
 {

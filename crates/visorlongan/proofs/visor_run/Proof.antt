@@ -1,8 +1,8 @@
--- `export::bg_run` meets its contract: the parts keep their promises, one after another, and three lengths are tested first. Assumes nothing.
-use Rattle.export.proofs.Left.{odd-request, odd-bank, odd-end, ran}
+-- `visorlongan::visor_run` meets its contract: the parts keep their promises, one after another, and three lengths are tested first. Assumes nothing.
+use Rattle.visorlongan.proofs.Left.{odd-request, odd-bank, odd-end, ran}
 use borrow.Author.Needs.{needs}
-use Rattle.export.proofs.bg_run.Statement.{statement}
-use Rattle.export.proofs.bg_run.Tie as tie
+use Rattle.visorlongan.proofs.visor_run.Statement.{statement}
+use Rattle.visorlongan.proofs.visor_run.Tie as tie
 
 returns : tie.Need-returns
 returns c = let a = c .before .before .before .before .before .before .args in odd-request (a .object .now) (a .request .now) (a .bank .now) (a .plan .now) (a .end .now) (c .if1 .taken)
@@ -49,8 +49,8 @@ returns-4 c =
     (r .run .ensures)
     (c .before .before .end-into .ensures)
 
-pub bg-run-spec : {M : Type 1} → statement M
-bg-run-spec =
+pub visor-run-spec : {M : Type 1} → statement M
+visor-run-spec =
     tie.close
     (tie.spec
     returns

@@ -13,7 +13,8 @@ use Rattle.runs.specs.Ran.{RanIs}
 use Rattle.giving.specs.Host.{runWords, endNumbers}
 use Rattle.request.specs.declared.types.Request.{Request}
 use Rattle.request.specs.Host.{withBytes, hostRequest}
-use Rattle.export.specs.Host.{left, ranLeft, hostRun, counted, hostCount}
+use Rattle.settling.specs.Applied.{applied, appliedOf}
+use Rattle.visorlongan.specs.Host.{left, ranLeft, hostRun, counted, hostCount, hostApply}
 
 module _ (object request bank plan end : List ℕ) where
   pub odd-request : (length request ≡ 7 → ⊥) → left 1 bank plan end ≡ hostRun object request bank plan end
@@ -55,3 +56,16 @@ module _ (object request end : List ℕ) where
   pub counts : (x : Request) → ((bytes : List ℕ) → planOf (withBytes bytes x) ≡ planOf (hostRequest bytes request)) → (r : End) (end′ : List ℕ) → length request ≡ 7 → length end ≡ 4
       → r ≡ endOf (planOf (requestOf object (x .opcode) (x .scissor) (x .mode) (x .address))) → end′ ≡ endNumbers r → counted 0 end′ ≡ hostCount object request end
   counts x i r end′ q e j k = ap (counted 0) (k ∙ ap endNumbers j ∙ ap (λ (z : Plan). endNumbers (endOf z)) (i object)) ∙ counting q e
+
+module _ (entry bank : List ℕ) where
+  pub odd-entry : (length entry ≡ 11 → ⊥) → applied 1 bank ≡ hostApply entry bank
+  unfolding hostApply
+  odd-entry n = rw (ne-eqb (length entry) 11 n)
+
+  pub odd-bank-there : length entry ≡ 11 → (length bank ≡ 136 → ⊥) → applied 1 bank ≡ hostApply entry bank
+  unfolding hostApply
+  odd-bank-there e n = rw (eq-eqb (length entry) 11 e, ne-eqb (length bank) 136 n)
+
+  pub applies : length entry ≡ 11 → length bank ≡ 136 → (r : ℕ) (bank′ : List ℕ) → applied r bank′ ≡ appliedOf entry bank → applied r bank′ ≡ hostApply entry bank
+  unfolding hostApply
+  applies e b r bank′ h = rw (eq-eqb (length entry) 11 e, eq-eqb (length bank) 136 b) h

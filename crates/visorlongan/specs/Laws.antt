@@ -13,7 +13,7 @@ use Rattle.plan.specs.Whole.{planOf}
 use Rattle.plan.specs.Run.{runOf}
 use Rattle.giving.specs.Host.{runWords, bankNumbers, endNumbers, run-end, run-bank, run-buffer, nothing-written}
 use Rattle.request.specs.Host.{hostRequest}
-use Rattle.export.specs.Host.{left, ranLeft, hostRun}
+use Rattle.visorlongan.specs.Host.{left, ranLeft, hostRun}
 
 -- on the numbers of a bank, that is document 01's run: all eight tiles, the whole buffer, the end
 pub host-bank : (object request plan end : List ℕ) (b : Bank) → length (b .tiles) ≡ 8 → hostRun object request (bankNumbers b) plan end .answer ≡ 0

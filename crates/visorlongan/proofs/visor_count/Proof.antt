@@ -1,8 +1,8 @@
--- `export::bg_count` meets its contract: the count is the end of the whole plan. Assumes nothing.
-use Rattle.export.proofs.Left.{odd-request-there, odd-end-there, counts}
+-- `visorlongan::visor_count` meets its contract: the count is the end of the whole plan. Assumes nothing.
+use Rattle.visorlongan.proofs.Left.{odd-request-there, odd-end-there, counts}
 use borrow.Author.Needs.{needs}
-use Rattle.export.proofs.bg_count.Statement.{statement}
-use Rattle.export.proofs.bg_count.Tie as tie
+use Rattle.visorlongan.proofs.visor_count.Statement.{statement}
+use Rattle.visorlongan.proofs.visor_count.Tie as tie
 
 returns : tie.Need-returns
 returns c = let a = c .before .before .before .before .args in odd-request-there (a .object .now) (a .request .now) (a .end .now) (c .if1 .taken)
@@ -36,8 +36,8 @@ returns-3 c =
     (c .before .before .before .before .count .ensures)
     (c .before .before .end-into .ensures)
 
-pub bg-count-spec : {M : Type 1} → statement M
-bg-count-spec =
+pub visor-count-spec : {M : Type 1} → statement M
+visor-count-spec =
     tie.close
     (tie.spec
     returns

@@ -1,17 +1,25 @@
-// The boundary to C: two functions over slices, each of which C passes as a pointer and a length. Words are 64 bits.
+// The boundary to C: functions over slices, each of which C passes as a pointer and a length. Words are 64 bits.
 //
 // request  7 words: opcode, scissor ulx uly lrx lry (signed), render mode (its low 32 bits), address
 // bank   136 words: eight tiles of seventeen
+// entry   11 words: kind, then its numbers
 // end      4 words: verdict, entries, rectangles, tile words
 //
-// The object and the plan may have any length. A call with another number of words in one of the three answers 1 and changes nothing.
+// The object and the plan may have any length. A call with another number of words in one of the others answers 1 and changes nothing.
 // A call that answers 0 has done all of its work: nothing is kept from one call to the next.
 ghost use mathlib.Core.Path.{_≡_};
-ghost use Rattle.export.specs.Host.{left, hostRun, counted, hostCount};
+ghost use Rattle.visorlongan.specs.Host.{left, hostRun, counted, hostCount, hostApply, versionOf};
+ghost use Rattle.settling.specs.Applied.{applied};
+
+const MAJOR: u64 = 0;
+
+const MINOR: u64 = 2;
+
+const PATCH: u64 = 0;
 
 // A whole run: the entries go to `plan`, eleven words each, and what they set of the tiles goes to `bank`. All other words stay as they are.
 #[no_mangle]
-pub extern "C" fn bg_run(
+pub extern "C" fn visor_run(
     object: &[u8],
     request: &[u64],
     bank: &mut [u64],
@@ -43,9 +51,9 @@ pub extern "C" fn bg_run(
     0
 }
 
-// The end of the whole plan, with no buffer: how large a buffer `bg_run` wants is eleven words for each of its entries.
+// The end of the whole plan, with no buffer: how large a buffer `visor_run` wants is eleven words for each of its entries.
 #[no_mangle]
-pub extern "C" fn bg_count(object: &[u8], request: &[u64], end: &mut [u64]) -> u64
+pub extern "C" fn visor_count(object: &[u8], request: &[u64], end: &mut [u64]) -> u64
     ensures { λ r. ⌜ counted r (now (end .exit)) ≡ hostCount (now (object .entry)) (now (request .entry)) (now (end .entry)) ⌝ }
 {
     if request.len() != 7 {
@@ -58,4 +66,26 @@ pub extern "C" fn bg_count(object: &[u8], request: &[u64], end: &mut [u64]) -> u
     let ended = runs::count(object, q.opcode, q.scissor, q.mode, q.address);
     giving::end_into(&mut *end, ended);
     0
+}
+
+// What one entry of a plan sets of the tiles. A host that follows a plan entry by entry has the bank of each of them by this.
+#[no_mangle]
+pub extern "C" fn visor_apply(entry: &[u64], bank: &mut [u64]) -> u64
+    ensures { λ r. ⌜ applied r (now (bank .exit)) ≡ hostApply (now (entry .entry)) (now (bank .entry)) ⌝ }
+{
+    if entry.len() != 11 {
+        return 1;
+    }
+    if bank.len() != 136 {
+        return 1;
+    }
+    settling::apply(&mut *bank, entry)
+}
+
+// The library's version, by which a host sees that its header and its archive belong together.
+#[no_mangle]
+pub extern "C" fn visor_version() -> u64
+    ensures { λ r. ⌜ r ≡ versionOf 0 2 0 ⌝ }
+{
+    MAJOR * 65536 + MINOR * 256 + PATCH
 }

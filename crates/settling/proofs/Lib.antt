@@ -1,0 +1,2 @@
+-- Which clause of its definition an entry's words meet.
+pub mod Clauses

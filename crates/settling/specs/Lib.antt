@@ -1,0 +1,2 @@
+-- What an entry's eleven words do to a bank's words.
+pub mod Applied
