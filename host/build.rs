@@ -1,22 +1,70 @@
-//! Links the proved planner: libvisorlongan.a, which `rt staticlib visorlongan` writes.
+//! Links the proved planner, libvisorlongan.a: from the folder that VISORLONGAN_LIB names, from
+//! lib/ inside the package, or from where `rt staticlib visorlongan` writes it in the repository.
 
-use std::path::PathBuf;
+use std::env;
+use std::path::{Path, PathBuf};
+
+const ARCHIVE: &str = "libvisorlongan.a";
 
 fn main() {
     println!("cargo::rerun-if-env-changed=VISORLONGAN_LIB");
-    let folder = match std::env::var_os("VISORLONGAN_LIB") {
-        Some(folder) => PathBuf::from(folder),
-        None => PathBuf::from(env!("CARGO_MANIFEST_DIR")).join("../target/staticlib"),
-    };
-    let library = folder.join("libvisorlongan.a");
-    if !library.is_file() {
-        let folder = folder.display();
-        println!("cargo::error=no libvisorlongan.a in {folder}: run `rt staticlib visorlongan`, or name its folder in VISORLONGAN_LIB");
+    if let Err(target) = supported() {
+        println!(
+            "cargo::error=libvisorlongan.a is compiled for x86-64 Linux with 64-bit pointers, \
+             and the target here is {target}: no archive for it exists"
+        );
         return;
     }
-    println!("cargo::rerun-if-changed={}", library.display());
+    let package = PathBuf::from(env::var_os("CARGO_MANIFEST_DIR").expect("cargo sets it"));
+    match folder(&package) {
+        Ok(folder) => link(&package, &folder),
+        Err(sentence) => println!("cargo::error={sentence}"),
+    }
+}
+
+/// The target, where the archive is not for it.
+fn supported() -> Result<(), String> {
+    let part = |name: &str| env::var(format!("CARGO_CFG_TARGET_{name}")).unwrap_or_default();
+    let fits = part("ARCH") == "x86_64" && part("OS") == "linux" && part("POINTER_WIDTH") == "64";
+    if fits {
+        Ok(())
+    } else {
+        Err(env::var("TARGET").unwrap_or_default())
+    }
+}
+
+/// The folder of the archive, or what to do where there is none.
+fn folder(package: &Path) -> Result<PathBuf, String> {
+    if let Some(named) = env::var_os("VISORLONGAN_LIB") {
+        let named = PathBuf::from(named);
+        let missing = format!(
+            "VISORLONGAN_LIB names {}, and there is no {ARCHIVE}",
+            named.display()
+        );
+        return Some(named)
+            .filter(|folder| folder.join(ARCHIVE).is_file())
+            .ok_or(missing);
+    }
+    let places = [package.join("lib"), package.join("../target/staticlib")];
+    let found = places
+        .into_iter()
+        .find(|folder| folder.join(ARCHIVE).is_file());
+    found.ok_or(format!(
+        "no {ARCHIVE}: take the crate out of a release, which has it inside; or run \
+         `rt staticlib visorlongan` in the repository; or name its folder in VISORLONGAN_LIB"
+    ))
+}
+
+fn link(package: &Path, folder: &Path) {
+    let archive = folder.join(ARCHIVE);
+    println!("cargo::rerun-if-changed={}", archive.display());
     println!("cargo::rustc-link-search=native={}", folder.display());
     println!("cargo::rustc-link-lib=static=visorlongan");
+    // For crates that compile C beside this one: DEP_VISORLONGAN_INCLUDE.
+    println!(
+        "cargo::metadata=include={}",
+        package.join("include").display()
+    );
     // For the test of the C header.
-    println!("cargo::rustc-env=LIBRARY={}", library.display());
+    println!("cargo::rustc-env=LIBRARY={}", archive.display());
 }

@@ -1,10 +1,19 @@
-/* Strip plans of Nintendo 64 background objects: the C functions of the archive that `rt staticlib visorlongan` writes
-   (target/staticlib/libvisorlongan.a, x86-64 Linux).
+/* Strip plans of Nintendo 64 background objects (S2DEX2), from a planner that is proved.
 
-   A slice is passed as a pointer and a length in elements. A pointer is never null, also where the length is 0, and is aligned
-   for its elements. The slices that a call writes lie apart from each other and from those that it reads; nothing else
-   touches them during the call. Any lengths and any values are fine: a call never fails and always ends. Nothing is kept
-   between calls, so threads may call at once. */
+   A background object is an image that is larger than the 4 KB of texture memory. A plan cuts it into strips that fit: a list
+   of entries that set the texture image, set tiles, load rows and draw rectangles, and an end that says how the list ended.
+   docs/SPECIFICATION.md has every rule; the numbers in brackets below, as (9.2), are its statements.
+
+   Platform: x86-64 Linux, libvisorlongan.a. The archive needs no other library, not even C's.
+
+   CALLS. A slice is passed as a pointer and a length in elements. Where the length is 0 the pointer may be null. Pointers are
+   aligned for their elements. The slices that a call writes lie apart from each other and from those that it reads; nothing
+   else touches them during the call. Any lengths and any values are fine: a call always ends, reads and writes inside the
+   lengths that it is given, allocates nothing, and keeps nothing between calls, so threads may call at once.
+   Each call answers 0, or 1 where a length is not the one named below; then it has changed nothing.
+
+   NUMBERS. A word is a uint64_t. A signed number is stored modulo 2^64: (int64_t)word gives it back. Units: a *quarter* is a
+   quarter of a texel or of a pixel (10.2), a *thirty-second* is one of a texel (10.5), a *scale* has 1,024 as 1 (5.10). */
 #ifndef VISORLONGAN_H
 #define VISORLONGAN_H
 
@@ -15,26 +24,216 @@
 extern "C" {
 #endif
 
-/* request: opcode (9 scaled, 10 copy), scissor ulx uly lrx lry (signed), render mode (its low 32 bits count), image address */
+/* ---- The version: of this header, and of the archive that is linked. They belong together if VISOR_VERSION == visor_version(). */
+
+#define VISOR_VERSION_MAJOR 0
+#define VISOR_VERSION_MINOR 2
+#define VISOR_VERSION_PATCH 0
+#define VISOR_VERSION_TEXT "0.2.0"
+#define VISOR_VERSION (VISOR_VERSION_MAJOR * 65536 + VISOR_VERSION_MINOR * 256 + VISOR_VERSION_PATCH)
+
+uint64_t visor_version(void);
+
+/* ---- The request (2): what a plan is made from, besides the object's bytes. */
+
 #define VISOR_REQUEST_WORDS 7
-/* bank: eight tiles, each uls ult lrs lrt width height fmt siz palette cms cmt masks maskt shifts shiftt line tmem;
-   a run writes the words that its entries set and reads none, so that any values may stand there */
-#define VISOR_BANK_WORDS 136
-/* an entry: kind, then its numbers, signed ones modulo 2^64, then zeros */
+
+enum visor_request {
+    VISOR_REQUEST_OPCODE = 0,      /* VISOR_OPCODE_SCALED or VISOR_OPCODE_COPY */
+    VISOR_REQUEST_ULX = 1,         /* the scissor, in whole pixels from 0 to 1,023, signed; */
+    VISOR_REQUEST_ULY = 2,         /*   lrx and lry are the first pixels outside it */
+    VISOR_REQUEST_LRX = 3,
+    VISOR_REQUEST_LRY = 4,
+    VISOR_REQUEST_RENDER_MODE = 5, /* the object render mode; its low 32 bits, of which VISOR_RENDER_MODE_BILERP counts */
+    VISOR_REQUEST_ADDRESS = 6      /* where the image is: the object's pointer (bytes 16 to 19), resolved by the host */
+};
+
+#define VISOR_OPCODE_SCALED 9  /* gSPBgRect1Cyc: an object of at least VISOR_SCALED_BYTES */
+#define VISOR_OPCODE_COPY 10   /* gSPBgRectCopy: an object of at least VISOR_COPY_BYTES */
+#define VISOR_SCALED_BYTES 36
+#define VISOR_COPY_BYTES 40
+#define VISOR_RENDER_MODE_BILERP 8
+
+/* ---- Entries (9): eleven words, the kind and then the kind's numbers at the places below; the rest are 0. */
+
 #define VISOR_ENTRY_WORDS 11
-/* end: verdict (0 to 10), entries, rectangles, tile words */
+
+enum visor_kind {
+    VISOR_KIND_IMAGE = 1, /* set the texture image */
+    VISOR_KIND_TILE = 2,  /* set a tile: all but its bounds, width and height, which stay; its shifts become 0 */
+    VISOR_KIND_SIZE = 3,  /* set a tile's bounds, and the width and height that follow from them */
+    VISOR_KIND_LOAD = 4,  /* set a tile's bounds as VISOR_KIND_SIZE does, then load it from the texture image */
+    VISOR_KIND_RECT = 5   /* draw a textured rectangle with the tiles as they stand after the entries before it */
+};
+
+enum visor_image {
+    VISOR_IMAGE_FMT = 1,    /* 0 RGBA, 1 YUV, 2 CI, 3 IA, 4 I */
+    VISOR_IMAGE_SIZ = 2,    /* 0 to 3: texels of 4, 8, 16, 32 bits */
+    VISOR_IMAGE_WIDTH = 3,  /* the command's width field: columns less one */
+    VISOR_IMAGE_ADDRESS = 4 /* bytes */
+};
+
+enum visor_tile {
+    VISOR_TILE_INDEX = 1, /* 0 or 7 */
+    VISOR_TILE_FMT = 2,
+    VISOR_TILE_SIZ = 3,
+    VISOR_TILE_LINE = 4,    /* words of 8 bytes from row to row in texture memory */
+    VISOR_TILE_TMEM = 5,    /* where the tile begins in texture memory, in words of 8 bytes */
+    VISOR_TILE_PALETTE = 6, /* the object's palette modulo 256 */
+    VISOR_TILE_CMS = 7,     /* bit 0 mirror, bit 1 clamp */
+    VISOR_TILE_CMT = 8,
+    VISOR_TILE_MASKS = 9, /* bits that are kept of a coordinate; 0: it is clamped to the tile's bounds */
+    VISOR_TILE_MASKT = 10
+};
+
+enum visor_size {
+    VISOR_SIZE_INDEX = 1, /* 0 */
+    VISOR_SIZE_ULS = 2,   /* quarters of a texel, the ends inclusive */
+    VISOR_SIZE_ULT = 3,
+    VISOR_SIZE_LRS = 4,
+    VISOR_SIZE_LRT = 5
+};
+
+enum visor_load {
+    VISOR_LOAD_INDEX = 1, /* 7 */
+    VISOR_LOAD_ULS = 2,   /* quarters of a texel in the texture image, the ends inclusive */
+    VISOR_LOAD_ULT = 3,
+    VISOR_LOAD_LRS = 4,
+    VISOR_LOAD_LRT = 5,
+    VISOR_LOAD_WORDS = 6,  /* words of 8 bytes that each row has */
+    VISOR_LOAD_ROWS = 7,   /* rows; row r goes to texture memory at the tile's tmem + r * the tile's line */
+    VISOR_LOAD_STRIDE = 8, /* bytes from row to row in memory */
+    VISOR_LOAD_START = 9,  /* the address of the first byte */
+    VISOR_LOAD_LENGTH = 10 /* bytes from the first to the last that is read */
+};
+
+/* The corners of a rectangle are quarters of a pixel. Copy: the ends are inclusive, (lrx - ulx) / 4 + 1 pixels across and
+   (lry - uly) / 4 + 1 lines down. Scaled: the ends are exclusive, (lrx - ulx) / 4 and (lry - uly) / 4. */
+enum visor_rect {
+    VISOR_RECT_TILE = 1, /* 0 */
+    VISOR_RECT_ULX = 2,
+    VISOR_RECT_ULY = 3,
+    VISOR_RECT_LRX = 4,
+    VISOR_RECT_LRY = 5,
+    VISOR_RECT_ULS = 6,  /* thirty-seconds of a texel, signed: where in the tile the first pixel is sampled */
+    VISOR_RECT_ULT = 7,  /* likewise, signed */
+    VISOR_RECT_DSDX = 8, /* 1,024ths of a texel from pixel to pixel, signed; a copy has 4,096, which is one texel (four a cycle) */
+    VISOR_RECT_DTDY = 9, /* 1,024ths of a texel from line to line, signed */
+    VISOR_RECT_ROW = 10  /* the image's row that the first line shows */
+};
+
+/* ---- The bank (5): eight tiles of seventeen words each; tile i begins at word i * VISOR_TILE_WORDS. */
+
+#define VISOR_TILES 8
+#define VISOR_TILE_WORDS 17
+#define VISOR_BANK_WORDS 136
+
+enum visor_bank {
+    VISOR_BANK_ULS = 0, /* the bounds, in quarters of a texel */
+    VISOR_BANK_ULT = 1,
+    VISOR_BANK_LRS = 2,
+    VISOR_BANK_LRT = 3,
+    VISOR_BANK_WIDTH = 4,  /* max(1, floor((lrs - uls) / 4) + 1) */
+    VISOR_BANK_HEIGHT = 5, /* max(1, floor((lrt - ult) / 4) + 1) */
+    VISOR_BANK_FMT = 6,
+    VISOR_BANK_SIZ = 7,
+    VISOR_BANK_PALETTE = 8,
+    VISOR_BANK_CMS = 9,
+    VISOR_BANK_CMT = 10,
+    VISOR_BANK_MASKS = 11,
+    VISOR_BANK_MASKT = 12,
+    VISOR_BANK_SHIFTS = 13,
+    VISOR_BANK_SHIFTT = 14,
+    VISOR_BANK_LINE = 15,
+    VISOR_BANK_TMEM = 16
+};
+
+/* ---- The end (10), and its verdict (4). */
+
 #define VISOR_END_WORDS 4
 
-/* A whole run. Answers 0: the entries stand in plan from its first word on, what they set of the tiles stands in bank, end has
-   the four numbers, and all other words are unchanged. Verdict 10 says that plan had no room for another entry.
-   Answers 1, and changes nothing, where request, bank or end has another number of words than above. */
-uint64_t visor_run(const uint8_t *object, size_t object_bytes, const uint64_t *request, size_t request_words, uint64_t *bank,
-                size_t bank_words, uint64_t *plan, size_t plan_words, uint64_t *end, size_t end_words);
+enum visor_end {
+    VISOR_END_VERDICT = 0,    /* VISOR_FINISHED, or why the plan stops */
+    VISOR_END_ENTRIES = 1,    /* entries that stand */
+    VISOR_END_RECTANGLES = 2, /* rectangles among them */
+    VISOR_END_TILE_WORDS = 3  /* the most texture memory that one load fills, in words of 8 bytes */
+};
 
-/* The end of the whole plan: visor_run gives it too once plan has VISOR_ENTRY_WORDS words for each of its entries (end[1]).
-   Answers as visor_run does. */
+/* 1 to 6: nothing is written, neither plan nor bank. 7 to 10: the entries before the refusal stand. */
+enum visor_verdict {
+    VISOR_FINISHED = 0,
+    VISOR_OPCODE = 1,
+    VISOR_SHORT = 2,
+    VISOR_SCISSOR = 3,
+    VISOR_OBJECT = 4,
+    VISOR_COPY = 5,
+    VISOR_SLICES = 6,
+    VISOR_TOO_BIG = 7,
+    VISOR_PIECE = 8,
+    VISOR_ADDRESS = 9,
+    VISOR_FULL = 10
+};
+
+/* What a verdict says, as a sentence in English; of a number that is no verdict, that it is none. */
+static inline const char *visor_verdict_text(uint64_t verdict) {
+    switch (verdict) {
+    case VISOR_FINISHED:
+        return "The plan is complete.";
+    case VISOR_OPCODE:
+        return "The opcode is neither 9 (scaled) nor 10 (copy).";
+    case VISOR_SHORT:
+        return "The object has fewer than 40 bytes for a copy or 36 for a scaled background.";
+    case VISOR_SCISSOR:
+        return "A scissor edge lies outside 0 to 1,023.";
+    case VISOR_OBJECT:
+        return "The object has a width or height of 0, a size above 3, a format above 4 or an unknown load.";
+    case VISOR_COPY:
+        return "The copy object has the wrong load, an image under 4 units, tile memory fields that do not fit each other or a "
+               "flip above 1.";
+    case VISOR_SLICES:
+        return "The scaled object has an image under 4 units high, or no row of it fits texture memory, or its rows have no "
+               "bytes.";
+    case VISOR_TOO_BIG:
+        return "A copy strip does not fit texture memory.";
+    case VISOR_PIECE:
+        return "A part of a scaled strip has no rows or no width, or no place.";
+    case VISOR_ADDRESS:
+        return "An image address leaves the 64-bit address space.";
+    case VISOR_FULL:
+        return "The plan buffer has no room for the next entry.";
+    default:
+        return "This number is no verdict.";
+    }
+}
+
+/* ---- The functions. */
+
+/* A whole run: plans the request. The entries stand in plan from its first word on, VISOR_ENTRY_WORDS each; end has the four
+   numbers; bank has what the entries set of the tiles. Every other word is as it was: those of plan beyond the last entry, and
+   those of bank that no entry sets, whatever they hold. A run reads no word of bank.
+
+   THE BANK IN THE MIDDLE OF A PLAN. bank comes back as it is after the *last* entry that stands. A rectangle or a load in the
+   middle is meant for the tiles as they are *there*: a host that draws keeps the bank from before the run, and calls
+   visor_apply for each entry before it acts on it. With all entries applied it has the bank that visor_run left, with one
+   exception: a copy load that is refused (VISOR_ADDRESS) has already set the bounds of tile 7, which is no entry; take the
+   bank of visor_run then. A host that stops in the middle goes on with the bank that it has applied so far.
+
+   VISOR_FULL says that plan had no room for the next entry; the entries that fitted stand, and bank is theirs.
+   Lengths: VISOR_REQUEST_WORDS, VISOR_BANK_WORDS, VISOR_END_WORDS; object and plan may have any. */
+uint64_t visor_run(const uint8_t *object, size_t object_bytes, const uint64_t *request, size_t request_words, uint64_t *bank,
+                   size_t bank_words, uint64_t *plan, size_t plan_words, uint64_t *end, size_t end_words);
+
+/* The end of the whole plan, with no memory for its entries: a plan buffer of end[VISOR_END_ENTRIES] * VISOR_ENTRY_WORDS words
+   has room for all of it, and visor_run then leaves the same end. No plan has more than 5,232,646 entries.
+   Lengths: VISOR_REQUEST_WORDS, VISOR_END_WORDS. */
 uint64_t visor_count(const uint8_t *object, size_t object_bytes, const uint64_t *request, size_t request_words, uint64_t *end,
-                  size_t end_words);
+                     size_t end_words);
+
+/* One entry of a plan done to a bank: sets what a tile, a size or a load sets, and no other word; an image or a rectangle sets
+   nothing. Answers 1, and changes nothing, also where the words are no entry's: another kind, a tile, size or load with an
+   index above 7, or a size or load with a bound above 65,535.
+   Lengths: VISOR_ENTRY_WORDS, VISOR_BANK_WORDS. */
+uint64_t visor_apply(const uint64_t *entry, size_t entry_words, uint64_t *bank, size_t bank_words);
 
 #ifdef __cplusplus
 }

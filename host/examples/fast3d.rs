@@ -1,50 +1,58 @@
 //! How fast3d-rs would call this library: its `bg_copy` and `bg_1cyc` become one loop over entries.
 //!
 //! The names below are those of its `rsp_s2dex2.rs` and `rdp.rs`; `Ctx` stands for the
-//! interpreter's context and keeps only what the loop touches. Run it with
+//! interpreter's context and keeps only what the loop touches: a machine with texture memory and a
+//! frame buffer, which tests/pixels.rs holds to the image, pixel by pixel. Run it with
 //!
-//!     cargo run --offline --example fast3d [CASE]
+//!     cargo run --offline --example fast3d [RECORD]
 //!
-//! where CASE is a file of 61 bytes in bgplan's format; without one it draws case E.
+//! where RECORD is a file of 61 bytes in bgplan's format; without one it draws case E.
 
-use visorlongan::{Bank, Buffer, Entry, Request, Scissor, Verdict, BG_1CYC, BG_COPY};
+#[path = "../tests/machine/mod.rs"]
+pub mod machine;
+
+use machine::Machine;
+use std::process::ExitCode;
+use visorlongan::{Buffer, Entry, Image, Record, Request, Scissor, Verdict, BG_1CYC, BG_COPY};
 
 /// fast3d-rs's `DiagKind`, as far as backgrounds push it.
-enum DiagKind {
+#[derive(Debug)]
+pub enum DiagKind {
     UnsupportedCommandParameters { opcode: u8 },
     MemoryReadObjBg,
     MemoryReadTexture,
 }
 
 /// The interpreter's context.
-#[derive(Default)]
-struct Ctx {
-    tiles: Bank,
-    obj_render_mode: u32,
-    diags: Vec<DiagKind>,
-    plan: Buffer,
-    calls: [usize; 4],
-    bytes: u64,
+pub struct Ctx {
+    pub rdp: Machine,
+    pub tex_image: Option<Image>,
+    pub obj_render_mode: u32,
+    pub diags: Vec<DiagKind>,
+    pub plan: Buffer,
+    pub material_dirty: bool,
 }
 
 impl Ctx {
-    fn set_texture_image(&mut self, _fmt: u8, _siz: u8, _width: u16, _address: u64) {
-        self.calls[0] += 1;
+    pub fn new(width: i32, height: i32) -> Ctx {
+        Ctx {
+            rdp: Machine::new(width, height),
+            tex_image: None,
+            obj_render_mode: 0,
+            diags: Vec::new(),
+            plan: Buffer::with_limit(1 << 20),
+            material_dirty: false,
+        }
     }
 
-    /// The bank comes back from the plan as a whole, so that only the material is to be marked.
-    fn material_dirty(&mut self) {
-        self.calls[1] += 1;
-    }
-
-    /// The host reads `length` bytes from `start` and copies `rows` rows into texture memory.
-    fn load_tile(&mut self, _tile: u8, length: u64) {
-        self.calls[2] += 1;
-        self.bytes += length;
-    }
-
-    fn emit_texrect(&mut self, _ends: [i32; 4], _uls: i16, _ult: i16, _steps: [i16; 2]) {
-        self.calls[3] += 1;
+    /// One entry, with the tiles as the entries up to it have set them.
+    fn entry(&mut self, entry: Entry) {
+        match entry {
+            Entry::Image(image) => self.tex_image = Some(image),
+            Entry::Tile(_) | Entry::Size(_) => self.material_dirty = true,
+            Entry::Load(load) => self.rdp.load(&load),
+            Entry::Rect(rect) => self.rdp.draw(&rect),
+        }
     }
 }
 
@@ -58,91 +66,77 @@ fn bg(opcode: u8, object: &[u8], scissor: Scissor, address: u64, cx: &mut Ctx) -
         address,
     };
     let mut buffer = std::mem::take(&mut cx.plan);
-    let mut tiles = cx.tiles;
-    let plan = buffer.plan(&request, &mut tiles);
-    cx.tiles = tiles;
-    for entry in plan.entries() {
-        match entry {
-            Entry::Image {
-                fmt,
-                siz,
-                width,
-                address,
-            } => cx.set_texture_image(fmt, siz, width, address),
-            Entry::Tile { .. } | Entry::Size { .. } => cx.material_dirty(),
-            Entry::Load { index, length, .. } => cx.load_tile(index, length),
-            Entry::Rect {
-                ulx,
-                uly,
-                lrx,
-                lry,
-                uls,
-                ult,
-                dsdx,
-                dtdy,
-                ..
-            } => cx.emit_texrect([ulx, uly, lrx, lry], uls, ult, [dsdx, dtdy]),
-        }
+    let mut after = cx.rdp.tiles;
+    let plan = buffer.plan(&request, &mut after);
+    for (entry, tiles) in plan.steps(cx.rdp.tiles) {
+        cx.rdp.tiles = tiles;
+        cx.entry(entry);
     }
-    let verdict = plan.end.verdict;
+    // The same tiles, but for a refused copy load, which has set tile 7's bounds.
+    cx.rdp.tiles = after;
+    let result = plan.result();
     cx.plan = buffer;
-    let kind = match verdict {
-        Verdict::Finished => return Ok(()),
+    result.map_err(|refusal| cx.diags.push(diagnostic(refusal.verdict(), opcode)))
+}
+
+/// What fast3d-rs pushes for a refusal.
+fn diagnostic(verdict: Verdict, opcode: u8) -> DiagKind {
+    match verdict {
         Verdict::Short => DiagKind::MemoryReadObjBg,
         Verdict::Address => DiagKind::MemoryReadTexture,
         _ => DiagKind::UnsupportedCommandParameters { opcode },
-    };
-    eprintln!("{verdict}");
-    cx.diags.push(kind);
-    Err(())
+    }
 }
 
-fn bg_copy(object: &[u8], scissor: Scissor, address: u64, cx: &mut Ctx) -> Result<(), ()> {
+pub(crate) fn bg_copy(
+    object: &[u8],
+    scissor: Scissor,
+    address: u64,
+    cx: &mut Ctx,
+) -> Result<(), ()> {
     bg(BG_COPY, object, scissor, address, cx)
 }
 
-fn bg_1cyc(object: &[u8], scissor: Scissor, address: u64, cx: &mut Ctx) -> Result<(), ()> {
+pub(crate) fn bg_1cyc(
+    object: &[u8],
+    scissor: Scissor,
+    address: u64,
+    cx: &mut Ctx,
+) -> Result<(), ()> {
     bg(BG_1CYC, object, scissor, address, cx)
 }
 
-fn main() {
+fn draw(record: &Record) -> Result<(), String> {
+    let request = record.request();
+    let mut cx = Ctx::new(1024, 1024);
+    cx.obj_render_mode = request.render_mode;
+    let drawn = match request.opcode {
+        BG_COPY => bg_copy(request.object, request.scissor, request.address, &mut cx),
+        BG_1CYC => bg_1cyc(request.object, request.scissor, request.address, &mut cx),
+        opcode => return Err(format!("{opcode} is no background's opcode")),
+    };
+    let pixels: Vec<_> = cx.rdp.pixels().filter(|(.., p)| p.drawn > 0).collect();
+    println!("{} pixels drawn", pixels.len());
+    for (x, y, pixel) in pixels.first().into_iter().chain(pixels.last()) {
+        match pixel.shows {
+            Some(half) => println!("pixel {x}, {y} shows the texel at address {}", half / 2),
+            None => println!("pixel {x}, {y} shows nothing that was loaded whole"),
+        }
+    }
+    drawn.map_err(|()| format!("refused: {:?}", cx.diags))
+}
+
+fn main() -> ExitCode {
     let sample = concat!(env!("CARGO_MANIFEST_DIR"), "/tests/cases/E.bin");
     let path = std::env::args().nth(1).unwrap_or(sample.to_string());
-    let case = std::fs::read(&path).unwrap_or_else(|error| panic!("{path}: {error}"));
-    assert!(case.len() >= 61, "{path}: a case has 61 bytes");
-    let half = |at: usize| i32::from(u16::from_be_bytes([case[at], case[at + 1]]));
-    let scissor = Scissor {
-        ulx: half(40),
-        uly: half(42),
-        lrx: half(44),
-        lry: half(46),
-    };
-    let mut cx = Ctx {
-        obj_render_mode: u32::from_be_bytes(case[48..52].try_into().unwrap()),
-        ..Ctx::default()
-    };
-    let address = u64::from_be_bytes(case[53..61].try_into().unwrap());
-    let drawn = match case[52] {
-        BG_COPY => bg_copy(&case[..40], scissor, address, &mut cx),
-        _ => bg_1cyc(&case[..40], scissor, address, &mut cx),
-    };
-    let [images, settings, loads, rectangles] = cx.calls;
-    println!("{images} texture images, {settings} tile settings, {loads} loads of {} bytes, {rectangles} rectangles", cx.bytes);
-    println!(
-        "{}",
-        if drawn.is_ok() {
-            "drawn whole"
-        } else {
-            "refused"
-        }
-    );
-    for diagnostic in &cx.diags {
-        match diagnostic {
-            DiagKind::UnsupportedCommandParameters { opcode } => {
-                println!("unsupported parameters of command {opcode}")
-            }
-            DiagKind::MemoryReadObjBg => println!("the object cannot be read"),
-            DiagKind::MemoryReadTexture => println!("the image cannot be read"),
+    let bytes = std::fs::read(&path).map_err(|error| error.to_string());
+    let record =
+        bytes.and_then(|bytes| Record::try_from(&bytes[..]).map_err(|error| error.to_string()));
+    match record.and_then(|record| draw(&record)) {
+        Ok(()) => ExitCode::SUCCESS,
+        Err(error) => {
+            eprintln!("{path}: {error}");
+            ExitCode::FAILURE
         }
     }
 }

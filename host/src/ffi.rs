@@ -1,7 +1,8 @@
-//! The proved library with its lengths fixed.
+//! The proved library with its lengths fixed, so that it never answers by 1 for one.
 
+use crate::entry::ENTRY_WORDS;
 use crate::library;
-pub use crate::library::{BANK_WORDS, END_WORDS, REQUEST_WORDS};
+pub use crate::library::{version, BANK_WORDS, END_WORDS, REQUEST_WORDS};
 
 pub fn run(
     object: &[u8],
@@ -11,20 +12,26 @@ pub fn run(
 ) -> [u64; END_WORDS] {
     let mut end = [0; END_WORDS];
     let status = library::run(object, request, bank, plan, &mut end);
-    assert_eq!(status, 0, "the library refused lengths that it defines");
+    debug_assert_eq!(status, 0, "the library refused lengths that it defines");
     end
 }
 
 pub fn count(object: &[u8], request: &[u64; REQUEST_WORDS]) -> [u64; END_WORDS] {
     let mut end = [0; END_WORDS];
     let status = library::count(object, request, &mut end);
-    assert_eq!(status, 0, "the library refused lengths that it defines");
+    debug_assert_eq!(status, 0, "the library refused lengths that it defines");
     end
+}
+
+/// Whether the words are an entry's; where they are not, nothing changes.
+pub fn apply(entry: &[u64; ENTRY_WORDS], bank: &mut [u64; BANK_WORDS]) -> bool {
+    library::apply(entry, bank) == 0
 }
 
 #[cfg(test)]
 mod tests {
     use super::*;
+    use std::vec;
 
     #[test]
     fn wrong_lengths_are_refused_and_nothing_is_written() {
@@ -47,6 +54,34 @@ mod tests {
             let (request, mut end) = (vec![10; request], vec![77; end]);
             assert_eq!(library::count(&[0; 40], &request, &mut end), 1);
             assert!(end.iter().all(|word| *word == 77));
+        }
+        for (entry, bank) in [(10, 136), (12, 136), (11, 135), (11, 137), (0, 0)] {
+            let (entry, mut bank) = (vec![2; entry], vec![77; bank]);
+            assert_eq!(library::apply(&entry, &mut bank), 1);
+            assert!(bank.iter().all(|word| *word == 77));
+        }
+    }
+
+    #[test]
+    fn words_that_are_no_entry_s_change_nothing() {
+        let no_entries: [(usize, u64, u64); 9] = [
+            (0, 0, 0),
+            (0, 6, 6),
+            (0, 9, 9),
+            (0, u64::MAX, u64::MAX),
+            (1, 2, 8),
+            (1, 3, 8),
+            (1, 4, 1 << 32),
+            (2, 3, 65_536),
+            (5, 4, 1 << 63),
+        ];
+        for (place, kind, number) in no_entries {
+            let mut entry = [0; ENTRY_WORDS];
+            entry[0] = kind;
+            entry[place] = number;
+            let mut bank = [77; BANK_WORDS];
+            assert!(!apply(&entry, &mut bank), "{entry:?}");
+            assert_eq!(bank, [77; BANK_WORDS]);
         }
     }
 }

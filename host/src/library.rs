@@ -7,24 +7,27 @@ pub const END_WORDS: usize = 4;
 extern "C" {
     fn visor_run(
         object: *const u8,
-        object_len: usize,
+        object_bytes: usize,
         request: *const u64,
-        request_len: usize,
+        request_words: usize,
         bank: *mut u64,
-        bank_len: usize,
+        bank_words: usize,
         plan: *mut u64,
-        plan_len: usize,
+        plan_words: usize,
         end: *mut u64,
-        end_len: usize,
+        end_words: usize,
     ) -> u64;
     fn visor_count(
         object: *const u8,
-        object_len: usize,
+        object_bytes: usize,
         request: *const u64,
-        request_len: usize,
+        request_words: usize,
         end: *mut u64,
-        end_len: usize,
+        end_words: usize,
     ) -> u64;
+    fn visor_apply(entry: *const u64, entry_words: usize, bank: *mut u64, bank_words: usize)
+        -> u64;
+    fn visor_version() -> u64;
 }
 
 /// A whole run: 0, or 1 where request, bank or end has the wrong number of words, which changes
@@ -69,4 +72,17 @@ pub fn count(object: &[u8], request: &[u64], end: &mut [u64]) -> u64 {
             end.len(),
         )
     }
+}
+
+/// One entry done to a bank: 0, or 1 where the words are too few, too many or no entry's, which
+/// changes nothing.
+pub fn apply(entry: &[u64], bank: &mut [u64]) -> u64 {
+    // SAFETY: as for `run`.
+    unsafe { visor_apply(entry.as_ptr(), entry.len(), bank.as_mut_ptr(), bank.len()) }
+}
+
+/// The version of the archive: major × 65,536 + minor × 256 + patch.
+pub fn version() -> u64 {
+    // SAFETY: the function takes nothing and answers a constant.
+    unsafe { visor_version() }
 }

@@ -1,10 +1,12 @@
-//! Document 01's cases, held to the text that the original Rust gave (tests/cases).
+//! The specification's cases, held to the text that the original Rust gave (tests/cases).
 //!
 //! NAME.bin is the case's 61 bytes, NAME.txt its plan from a bank of zeros, NAME.bank the tiles
 //! after the plan from the tiles of initial-bank.txt; list.txt says how many of the object's bytes
 //! each case gets.
 
-use visorlongan::{count, run, Bank, Buffer, Request, Scissor, Verdict, ENTRY_WORDS};
+use visorlongan::{
+    count, run, Bank, Buffer, Entry, Record, Request, Scissor, Verdict, ENTRY_WORDS,
+};
 
 fn folder() -> String {
     format!("{}/tests/cases", env!("CARGO_MANIFEST_DIR"))
@@ -18,30 +20,29 @@ fn text(name: &str) -> String {
     String::from_utf8(read(name)).expect("text")
 }
 
-/// The case's bytes, and how many of the object's the planner gets.
-fn cases() -> Vec<(String, Vec<u8>, usize)> {
+fn record(name: &str) -> Record {
+    Record::try_from(&read(&format!("{name}.bin"))[..]).expect("61 bytes")
+}
+
+/// The case's record, and how many of the object's bytes the planner gets.
+fn cases() -> Vec<(String, Record, usize)> {
     let list = text("list.txt");
     let case = |line: &str| {
         let (name, count) = line.split_once(' ').expect("name and count");
-        let bytes = read(&format!("{name}.bin"));
-        (name.to_string(), bytes, count.parse().expect("a count"))
+        (
+            name.to_string(),
+            record(name),
+            count.parse().expect("a count"),
+        )
     };
     list.lines().map(case).collect()
 }
 
-fn request(bytes: &[u8], object_bytes: usize) -> Request<'_> {
-    let half = |at: usize| i32::from(u16::from_be_bytes([bytes[at], bytes[at + 1]]));
+fn request(record: &Record, object_bytes: usize) -> Request<'_> {
+    let request = record.request();
     Request {
-        object: &bytes[..object_bytes],
-        opcode: bytes[52],
-        scissor: Scissor {
-            ulx: half(40),
-            uly: half(42),
-            lrx: half(44),
-            lry: half(46),
-        },
-        render_mode: u32::from_be_bytes(bytes[48..52].try_into().unwrap()),
-        address: u64::from_be_bytes(bytes[53..61].try_into().unwrap()),
+        object: &request.object[..object_bytes],
+        ..request
     }
 }
 
@@ -65,39 +66,111 @@ fn plans_are_the_rusts() {
     let mut buffer = Buffer::new();
     let cases = cases();
     assert_eq!(cases.len(), 20);
-    for (name, bytes, object_bytes) in &cases {
-        let plan = buffer.plan(&request(bytes, *object_bytes), &mut Bank::default());
-        assert_eq!(
-            plan.to_string(),
-            text(&format!("{name}.txt")),
-            "case {name}"
-        );
+    for (name, record, object_bytes) in &cases {
+        let request = request(record, *object_bytes);
+        let plan = buffer.plan(&request, &mut Bank::default());
+        let said = text(&format!("{name}.txt"));
+        assert_eq!(plan.to_string(), said, "case {name}");
         assert_eq!(plan.entries().len() as u64, plan.end.entries);
-        assert_eq!(count(&request(bytes, *object_bytes)), plan.end);
+        assert_eq!(count(&request), plan.end);
+        assert_eq!(plan.result().is_ok(), plan.end.verdict == Verdict::Finished);
     }
 }
 
 #[test]
 fn banks_are_the_rusts() {
     let mut buffer = Buffer::new();
-    for (name, bytes, object_bytes) in &cases() {
+    for (name, record, object_bytes) in &cases() {
         let mut tiles = bank(&text("initial-bank.txt"));
-        buffer.plan(&request(bytes, *object_bytes), &mut tiles);
+        let _ = buffer.plan(&request(record, *object_bytes), &mut tiles);
         assert_eq!(tiles, bank(&text(&format!("{name}.bank"))), "case {name}");
     }
+}
+
+/// Each step has the bank of a run that was cut off there, and the last one the plan's own.
+#[test]
+fn steps_have_the_bank_of_each_entry() {
+    let before = bank(&text("initial-bank.txt"));
+    for (name, record, object_bytes) in &cases() {
+        let request = request(record, *object_bytes);
+        let (mut buffer, mut after) = (Buffer::new(), before);
+        let plan = buffer.plan(&request, &mut after);
+        for (n, (entry, tiles)) in (1..).zip(plan.steps(before)) {
+            let (mut words, mut cut) = (vec![0; n * ENTRY_WORDS], before);
+            let shorter = run(&request, &mut cut, &mut words);
+            assert_eq!(shorter.entries().next_back(), Some(entry));
+            let whole = n as u64 == plan.end.entries;
+            assert_eq!(
+                tiles,
+                if whole { after } else { cut },
+                "case {name}, entry {n}"
+            );
+        }
+        let banks = plan.steps(before).map(|(_, tiles)| tiles);
+        assert_eq!(banks.last().unwrap_or(before), after, "case {name}");
+    }
+}
+
+/// A copy load that is refused by its address has set tile 7's bounds, which is no entry.
+#[test]
+fn a_refused_copy_load_has_set_its_size() {
+    let record = record("L");
+    let request = Request {
+        address: u64::MAX,
+        ..record.request()
+    };
+    let mut object = record.request().object.to_vec();
+    object[1] = 255;
+    let request = Request {
+        object: &object,
+        ..request
+    };
+    let (mut buffer, mut after) = (Buffer::new(), Bank::default());
+    let plan = buffer.plan(&request, &mut after);
+    assert_eq!((plan.end.verdict, plan.end.entries), (Verdict::Address, 4));
+    let (entry, tiles) = plan.steps(Bank::default()).last().expect("four entries");
+    assert!(matches!(entry, Entry::Size(_)));
+    assert_eq!((tiles.tiles[7].lrs, after.tiles[7].lrs), (0, 60));
+}
+
+#[test]
+fn entries_come_from_both_ends() {
+    let record = record("E");
+    let mut buffer = Buffer::new();
+    let plan = buffer.plan(&record.request(), &mut Bank::default());
+    let forward: Vec<Entry> = plan.entries().collect();
+    let mut backward: Vec<Entry> = plan.entries().rev().collect();
+    backward.reverse();
+    assert_eq!(forward, backward);
+    let mut entries = plan.entries();
+    assert_eq!((entries.nth(120), entries.len()), (Some(forward[120]), 2));
+    assert_eq!(entries.next_back(), Some(forward[122]));
+    assert_eq!(entries.next(), Some(forward[121]));
+    assert_eq!(
+        (entries.next(), entries.next(), entries.next_back()),
+        (None, None, None)
+    );
+    let mut count = 0;
+    for entry in &plan {
+        let words = entry.to_words();
+        let mode = visorlongan::Mode::Scaled;
+        assert_eq!(Entry::from_words(&words, mode), Ok(entry));
+        count += 1;
+    }
+    assert_eq!(count, 123);
 }
 
 /// Case E has 123 entries: every buffer up to its plan's length and a little more.
 #[test]
 fn buffers_of_every_length() {
-    let bytes = read("E.bin");
-    let request = request(&bytes, 40);
+    let record = record("E");
+    let request = record.request();
     let mut whole = vec![7; 123 * ENTRY_WORDS];
-    let end = run(&request, &mut Bank::default(), &mut whole);
+    let end = run(&request, &mut Bank::default(), &mut whole).end;
     assert_eq!((end.verdict, end.entries), (Verdict::Finished, 123));
     for length in 0..whole.len() + 24 {
         let mut words = vec![7; length];
-        let end = run(&request, &mut Bank::default(), &mut words);
+        let end = run(&request, &mut Bank::default(), &mut words).end;
         let fitting = (length / ENTRY_WORDS).min(123);
         let verdict = if fitting < 123 {
             Verdict::Full
@@ -114,84 +187,41 @@ fn buffers_of_every_length() {
 /// Case D is refused after one entry, and that is said though the buffer has room for no more.
 #[test]
 fn a_refusal_comes_before_a_full_buffer() {
-    let bytes = read("D.bin");
+    let record = record("D");
     let mut words = [7; ENTRY_WORDS];
-    let end = run(&request(&bytes, 40), &mut Bank::default(), &mut words);
+    let end = run(&record.request(), &mut Bank::default(), &mut words).end;
     assert_eq!((end.verdict, end.entries), (Verdict::TooBig, 1));
-    let end = run(&request(&bytes, 40), &mut Bank::default(), &mut []);
+    let end = run(&record.request(), &mut Bank::default(), &mut []).end;
     assert_eq!((end.verdict, end.entries), (Verdict::Full, 0));
 }
 
 #[test]
 fn refused_requests_leave_the_bank() {
-    let bytes = read("L.bin");
-    let good = request(&bytes, 40);
-    let scissor = |ulx| Scissor {
-        ulx,
-        ..good.scissor
+    let record = record("L");
+    let good = record.request();
+    let edge = |ulx| Request {
+        scissor: Scissor {
+            ulx,
+            ..good.scissor
+        },
+        ..good
     };
+    let opcode = |opcode| Request { opcode, ..good };
+    let object = |object| Request { object, ..good };
     let tiles = bank(&text("initial-bank.txt"));
     for (request, verdict) in [
-        (Request { opcode: 0, ..good }, Verdict::Opcode),
-        (
-            Request {
-                opcode: 255,
-                ..good
-            },
-            Verdict::Opcode,
-        ),
-        (
-            Request {
-                object: &[],
-                ..good
-            },
-            Verdict::Short,
-        ),
-        (
-            Request {
-                object: &bytes[..39],
-                ..good
-            },
-            Verdict::Short,
-        ),
-        (
-            Request {
-                scissor: scissor(-1),
-                ..good
-            },
-            Verdict::Scissor,
-        ),
-        (
-            Request {
-                scissor: scissor(1024),
-                ..good
-            },
-            Verdict::Scissor,
-        ),
-        (
-            Request {
-                scissor: scissor(i32::MIN),
-                ..good
-            },
-            Verdict::Scissor,
-        ),
-        (
-            Request {
-                scissor: scissor(i32::MAX),
-                ..good
-            },
-            Verdict::Scissor,
-        ),
-        (
-            Request {
-                object: &[0; 40],
-                ..good
-            },
-            Verdict::Object,
-        ),
+        (opcode(0), Verdict::Opcode),
+        (opcode(255), Verdict::Opcode),
+        (object(&[][..]), Verdict::Short),
+        (object(&good.object[..39]), Verdict::Short),
+        (edge(-1), Verdict::Scissor),
+        (edge(1024), Verdict::Scissor),
+        (edge(i32::MIN), Verdict::Scissor),
+        (edge(i32::MAX), Verdict::Scissor),
+        (object(&[0; 40][..]), Verdict::Object),
     ] {
         let (mut after, mut words) = (tiles, [7; 110]);
-        let end = run(&request, &mut after, &mut words);
+        let end = run(&request, &mut after, &mut words).end;
         assert_eq!((end.verdict, end.entries, after), (verdict, 0, tiles));
         assert_eq!(words, [7; 110]);
     }
@@ -200,11 +230,12 @@ fn refused_requests_leave_the_bank() {
 #[test]
 fn bytes_beyond_the_object_are_not_read() {
     for name in ["L", "E"] {
-        let mut bytes = read(&format!("{name}.bin"));
-        bytes.splice(40..40, [255; 24]);
+        let record = record(name);
+        let mut bytes = record.request().object.to_vec();
+        bytes.extend([255; 24]);
         let long = Request {
-            object: &bytes[..64],
-            ..request(&read(&format!("{name}.bin")), 40)
+            object: &bytes,
+            ..record.request()
         };
         let mut buffer = Buffer::new();
         let plan = buffer.plan(&long, &mut Bank::default());
@@ -212,23 +243,19 @@ fn bytes_beyond_the_object_are_not_read() {
     }
 }
 
-/// The longest plan: an image of one cell under a frame of 1,023 by 1,023 cells.
-#[test]
-fn the_largest_plan() {
-    let mut bytes = read("L.bin");
+/// The longest plan's object: an image of one cell under a frame of 1,023 by 1,023 cells.
+fn largest() -> Vec<u8> {
+    let mut bytes = record("L").request().object.to_vec();
     for (at, field) in [(2, 4), (10, 4), (6, 4092), (14, 4092), (30, 4), (32, 4)] {
         bytes[at..at + 2].copy_from_slice(&u16::to_be_bytes(field));
     }
-    let scissor = Scissor {
-        ulx: 0,
-        uly: 0,
-        lrx: 1023,
-        lry: 1023,
-    };
-    let request = Request {
-        scissor,
-        ..request(&bytes, 40)
-    };
+    bytes
+}
+
+#[test]
+fn the_largest_plan() {
+    let object = largest();
+    let request = Request::copy(&object, Scissor::new(0, 0, 1023, 1023), 4096);
     let mut buffer = Buffer::new();
     let plan = buffer.plan(&request, &mut Bank::default());
     assert_eq!(plan.end.verdict, Verdict::Finished);
@@ -237,4 +264,40 @@ fn the_largest_plan() {
         (5_232_646, 1_046_529)
     );
     assert_eq!(plan.entries().count(), 5_232_646);
+    assert!(buffer.room() >= 5_232_646);
+    buffer.shrink_to(10);
+    assert_eq!(buffer.room(), 10);
+}
+
+/// A limit is kept, a plan that wants more is answered, and the bank is that of what fitted.
+#[test]
+fn buffers_with_a_limit() {
+    let object = largest();
+    let request = Request::copy(&object, Scissor::new(0, 0, 1023, 1023), 4096);
+    for limit in [0, 1, 5, 511, 512, 513, 100_000] {
+        let (mut buffer, mut after) = (Buffer::with_limit(limit), Bank::default());
+        let plan = buffer.plan(&request, &mut after);
+        assert_eq!(
+            (plan.end.verdict, plan.end.entries),
+            (Verdict::Full, limit as u64)
+        );
+        let banks = plan.steps(Bank::default()).map(|(_, tiles)| tiles);
+        assert_eq!(banks.last().unwrap_or_default(), after);
+        assert_eq!(buffer.room(), limit);
+    }
+    let small = record("L");
+    let mut buffer = Buffer::with_limit(6);
+    let plan = buffer.plan(&small.request(), &mut Bank::default());
+    assert_eq!(plan.result(), Ok(()));
+}
+
+/// The archive, the crate and the header are of one version.
+#[test]
+fn versions() {
+    let [major, minor, patch] = visorlongan::version();
+    let version = format!("{major}.{minor}.{patch}");
+    assert_eq!(version, env!("CARGO_PKG_VERSION"));
+    let header = concat!(env!("CARGO_MANIFEST_DIR"), "/include/visorlongan.h");
+    let header = std::fs::read_to_string(header).expect("the header");
+    assert!(header.contains(&format!("#define VISOR_VERSION_TEXT \"{version}\"")));
 }

@@ -1,60 +1,111 @@
-//! The C header, compiled by the machine's C compiler (`cc`, or what CC names) and linked to the
-//! library. Where there is no compiler the test fails: a header that nobody compiled is not tested.
+//! The C header, compiled as C and as C++ by the machine's compilers (`cc` and `c++`, or what CC and
+//! CXX name) and linked to the library. Where there is none the test fails: a header that nobody
+//! compiled is not tested.
 
 use std::process::Command;
+use visorlongan::Verdict;
 
 const PROGRAM: &str = r#"
 #include "visorlongan.h"
 #include <stdio.h>
 
-/* How many words of a bank, all ones before, a run has set. */
-static int set_words(const uint64_t *bank) {
+static uint64_t bank[VISOR_BANK_WORDS], plan[6 * VISOR_ENTRY_WORDS], end[VISOR_END_WORDS];
+
+/* How many words of the bank, all ones before, a call has set. */
+static int set_words(void) {
     int n = 0;
     for (int i = 0; i < VISOR_BANK_WORDS; i++) n += bank[i] != UINT64_MAX;
     return n;
 }
 
+/* Slices of no elements may have null pointers. */
+static void nothing(const uint8_t *object, const uint64_t *request) {
+    printf("%d", (int)visor_run(NULL, 0, request, VISOR_REQUEST_WORDS, bank, VISOR_BANK_WORDS, plan, 66, end, VISOR_END_WORDS));
+    printf(" %d", (int)end[VISOR_END_VERDICT]);
+    printf(" %d", (int)visor_run(object, 40, request, VISOR_REQUEST_WORDS, bank, VISOR_BANK_WORDS, NULL, 0, end, VISOR_END_WORDS));
+    printf(" %d", (int)end[VISOR_END_VERDICT]);
+    printf(" %d", (int)visor_run(NULL, 0, NULL, 0, NULL, 0, NULL, 0, NULL, 0));
+    printf(" %d", (int)visor_count(NULL, 0, request, VISOR_REQUEST_WORDS, end, VISOR_END_WORDS));
+    printf(" %d", (int)visor_count(NULL, 0, NULL, 0, NULL, 0));
+    printf(" %d %d\n", (int)visor_apply(NULL, 0, NULL, 0), set_words());
+}
+
+static void whole(const uint8_t *object, const uint64_t *request) {
+    printf("%d", (int)visor_run(object, 40, request, VISOR_REQUEST_WORDS, bank, VISOR_BANK_WORDS, plan, 66, end, VISOR_END_WORDS));
+    for (int i = 0; i < VISOR_END_WORDS; i++) printf(" %d", (int)end[i]);
+    printf(" %d\n", set_words());
+    printf("%d", (int)visor_count(object, 40, request, VISOR_REQUEST_WORDS, end, VISOR_END_WORDS));
+    for (int i = 0; i < VISOR_END_WORDS; i++) printf(" %d", (int)end[i]);
+    printf("\n");
+}
+
+/* The entries applied one after another: what the run has set, once more. */
+static void applied(void) {
+    uint64_t run[VISOR_BANK_WORDS];
+    int same = 1;
+    for (int i = 0; i < VISOR_BANK_WORDS; i++) run[i] = bank[i], bank[i] = UINT64_MAX;
+    for (int n = 0; n < 6; n++) {
+        printf("%d%d ", (int)plan[n * VISOR_ENTRY_WORDS], (int)visor_apply(plan + n * VISOR_ENTRY_WORDS, VISOR_ENTRY_WORDS, bank, VISOR_BANK_WORDS));
+    }
+    for (int i = 0; i < VISOR_BANK_WORDS; i++) same &= run[i] == bank[i];
+    printf("%d %d %d\n", same, (int)bank[7 * VISOR_TILE_WORDS + VISOR_BANK_LINE], (int)bank[VISOR_BANK_WIDTH]);
+}
+
 int main(void) {
-    uint8_t object[40] = {0};
+    uint8_t object[VISOR_COPY_BYTES] = {0};
     object[3] = 64; object[7] = 64; object[11] = 8; object[15] = 8;
     object[20] = 0xff; object[21] = 0xf4; object[23] = 2;
     object[31] = 8; object[33] = 8; object[37] = 1;
-    uint64_t request[VISOR_REQUEST_WORDS] = {10, 0, 0, 320, 240, 0, 4096};
-    uint64_t bank[VISOR_BANK_WORDS];
+    uint64_t request[VISOR_REQUEST_WORDS] = {VISOR_OPCODE_COPY, 0, 0, 320, 240, 0, 4096};
     for (int i = 0; i < VISOR_BANK_WORDS; i++) bank[i] = UINT64_MAX;
-    uint64_t plan[6 * VISOR_ENTRY_WORDS];
-    uint64_t end[VISOR_END_WORDS];
-    uint64_t status = visor_run(object, 39, request, VISOR_REQUEST_WORDS, bank, VISOR_BANK_WORDS,
-                             plan, 6 * VISOR_ENTRY_WORDS, end, VISOR_END_WORDS);
-    printf("%d %d %d\n", (int)status, (int)end[0], set_words(bank));
-    status = visor_run(object, 40, request, VISOR_REQUEST_WORDS, bank, VISOR_BANK_WORDS,
-                    plan, 6 * VISOR_ENTRY_WORDS, end, VISOR_END_WORDS);
-    printf("%d %d %d %d %d\n", (int)status, (int)end[0], (int)end[1], (int)end[2], (int)end[3]);
-    printf("%d\n", set_words(bank));
-    status = visor_count(object, 40, request, VISOR_REQUEST_WORDS, end, VISOR_END_WORDS);
-    printf("%d %d %d %d %d\n", (int)status, (int)end[0], (int)end[1], (int)end[2], (int)end[3]);
+    printf("%s %d\n", VISOR_VERSION_TEXT, visor_version() == VISOR_VERSION);
+    nothing(object, request);
+    whole(object, request);
+    applied();
+    for (uint64_t verdict = 0; verdict <= VISOR_FULL + 1; verdict++) printf("%s\n", visor_verdict_text(verdict));
     return 0;
 }
 "#;
 
 /// Case L, with a bank whose words fit no field: a refused run sets none of them, and a whole one the
 /// words of tiles 0 and 7 alone.
-#[test]
-fn the_header_compiles_and_links() {
-    let compiler = std::env::var("CC").unwrap_or_else(|_| "cc".to_string());
+fn expected() -> String {
+    let mut lines = vec![
+        concat!(env!("CARGO_PKG_VERSION"), " 1"),
+        "0 2 0 10 1 0 1 1 0",
+        "0 0 6 1 8 34",
+        "0 0 6 1 8",
+        "10 20 20 30 40 50 1 4 16",
+    ];
+    lines.extend(Verdict::ALL.iter().map(|verdict| verdict.sentence()));
+    lines.push("This number is no verdict.");
+    lines.join("\n") + "\n"
+}
+
+fn compiled_and_run(variable: &str, default: &str, file: &str, standard: &str) {
+    let compiler = std::env::var(variable).unwrap_or_else(|_| default.to_string());
     let folder = env!("CARGO_TARGET_TMPDIR");
-    let (source, program) = (format!("{folder}/header.c"), format!("{folder}/header"));
+    let (source, program) = (format!("{folder}/{file}"), format!("{folder}/{file}.run"));
     std::fs::write(&source, PROGRAM).expect("a file");
+    let flags = ["-Wall", "-Wextra", "-Wpedantic", "-Werror", "-I"];
     let compiled = Command::new(&compiler)
-        .args(["-std=c99", "-Wall", "-Wextra", "-Werror", "-I"])
-        .arg(concat!(env!("CARGO_MANIFEST_DIR"), "/../include"))
+        .arg(standard)
+        .args(flags)
+        .arg(concat!(env!("CARGO_MANIFEST_DIR"), "/include"))
         .args(["-o", &program, &source, env!("LIBRARY")])
         .status()
-        .unwrap_or_else(|error| panic!("no C compiler, {compiler}: {error}"));
+        .unwrap_or_else(|error| panic!("no compiler {compiler}: {error}"));
     assert!(compiled.success());
     let output = Command::new(&program).output().expect("the program");
-    assert_eq!(
-        String::from_utf8_lossy(&output.stdout),
-        "0 2 0\n0 0 6 1 8\n34\n0 0 6 1 8\n"
-    );
+    assert_eq!(String::from_utf8_lossy(&output.stdout), expected());
+}
+
+#[test]
+fn the_header_is_c() {
+    compiled_and_run("CC", "cc", "header.c", "-std=c99");
+}
+
+#[test]
+fn the_header_is_c_plus_plus() {
+    compiled_and_run("CXX", "c++", "header.cpp", "-std=c++11");
 }

@@ -1,0 +1,1 @@
+../../include/visorlongan.h

@@ -1,0 +1,301 @@
+//! Every public function with slices that are empty, short, long and random, and with extreme
+//! numbers: each answers, and none panics.
+
+mod random;
+
+use random::Random;
+use visorlongan::{
+    count, run, version, Bank, Buffer, Entry, Kind, Mode, Object, Pixels, Quarters, Record,
+    Refusal, Request, Scale, Scissor, ThirtySeconds, Tile, Verdict, WrongLength, ENTRY_WORDS,
+};
+
+const MODES: [Mode; 2] = [Mode::Copy, Mode::Scaled];
+
+/// Random bytes, of which some are an object that passes most of the checks.
+fn bytes(r: &mut Random) -> Vec<u8> {
+    let lengths = [0, 1, 2, 35, 36, 39, 40, 41, 60, 61, 62, 1_000];
+    let mut bytes = vec![0; lengths[r.next() as usize % lengths.len()]];
+    r.fill(&mut bytes);
+    if bytes.len() >= 36 && !r.once_in(4) {
+        let numbers = [
+            r.from(0, 4),
+            r.from(0, 3),
+            0,
+            r.from(0, 255),
+            0,
+            r.from(0, 1),
+        ];
+        bytes[20..22].copy_from_slice(&[255, 244]);
+        bytes[22..28].copy_from_slice(&numbers.map(|number| number as u8));
+        for at in [2, 6, 10, 14] {
+            bytes[at] &= 15;
+        }
+        bytes[4] = 0;
+        bytes[12] = 0;
+    }
+    if bytes.len() >= 40 && r.once_in(2) {
+        let tmem_h = r.from(4, 255) as u8;
+        bytes[30..40].copy_from_slice(&[0, tmem_h, 0, tmem_h, 0, 0, 0, 1, 0, 0]);
+    }
+    bytes
+}
+
+fn request<'a>(r: &mut Random, object: &'a [u8]) -> Request<'a> {
+    let wild = r.once_in(4);
+    let mut edge = |high| {
+        if wild {
+            r.next() as i32
+        } else {
+            r.from(0, high) as i32
+        }
+    };
+    let scissor = Scissor::new(edge(30), edge(30), edge(1_023), edge(1_023));
+    Request {
+        object,
+        opcode: if wild {
+            r.next() as u8
+        } else {
+            r.from(9, 10) as u8
+        },
+        scissor,
+        render_mode: r.next() as u32,
+        address: u64::MAX - (r.next() >> r.from(0, 63)),
+    }
+}
+
+fn all_of_a_plan(request: &Request, bank: Bank, buffer: &mut Buffer) -> Verdict {
+    let mut after = bank;
+    let plan = buffer.plan(request, &mut after);
+    let mut stepped = bank;
+    for (entry, tiles) in plan.steps(bank).take(2_000) {
+        stepped.apply(&entry);
+        assert_eq!(stepped, tiles);
+        assert!(entry.to_string().len() > 30);
+        let mode = Mode::of(request.opcode).expect("a plan with entries");
+        assert_eq!(Entry::from_words(&entry.to_words(), mode), Ok(entry));
+        if let Entry::Rect(rect) = entry {
+            let Pixels { x, y } = rect.pixels();
+            assert!(x.start >= 0 && y.start >= 0 && x.end <= 1_024 && y.end <= 1_024);
+        }
+    }
+    assert_eq!(
+        plan.result().err().map(|r: Refusal| r.end()),
+        plan.result().err().map(|_| plan.end)
+    );
+    assert!(
+        plan.entries().rev().take(9).count() <= 9
+            && (&plan).into_iter().len() == plan.entries().len()
+    );
+    let (limited, end) = (plan.end.verdict == Verdict::Full, plan.end);
+    assert!(limited || count(request) == end);
+    end.verdict
+}
+
+#[test]
+fn requests_of_every_kind() {
+    let mut r = Random(3);
+    let mut met = [0; 11];
+    let mut buffer = Buffer::with_limit(2_000);
+    for _ in 0..60_000 {
+        let object = bytes(&mut r);
+        let request = request(&mut r, &object);
+        let mut bank = Bank::default();
+        bank.tiles[r.next() as usize % 8].lrs = r.next() as u16;
+        met[all_of_a_plan(&request, bank, &mut buffer).number() as usize] += 1;
+        let mut words = vec![7; r.next() as usize % 60];
+        let end = run(&request, &mut bank, &mut words).end;
+        let written = end.entries as usize * ENTRY_WORDS;
+        assert!(words[written..].iter().all(|word| *word == 7));
+        buffer.shrink_to(r.next() as usize % 1_000);
+    }
+    println!("verdicts met: {met:?}");
+    assert!(met.iter().all(|count| *count > 0), "{met:?}");
+}
+
+#[test]
+fn bytes_of_every_length() {
+    let mut r = Random(4);
+    for length in (0..=130).chain([1_000]) {
+        let mut bytes = vec![0; length];
+        r.fill(&mut bytes);
+        for mode in MODES {
+            let wanted = mode.object_bytes();
+            let decoded = Object::decode(&bytes, mode);
+            let short = WrongLength {
+                wanted,
+                found: length,
+            };
+            assert_eq!(decoded.is_ok(), length >= wanted);
+            assert!(decoded.is_ok() || decoded == Err(short));
+        }
+        let record = Record::try_from(&bytes[..]);
+        let wrong = WrongLength {
+            wanted: Record::BYTES,
+            found: length,
+        };
+        assert_eq!(record.err(), (length != Record::BYTES).then_some(wrong));
+        assert!(wrong.to_string().contains("61 bytes"));
+    }
+    let mut bytes = [0; Record::BYTES];
+    r.fill(&mut bytes);
+    assert_eq!(Record::from(bytes).as_bytes(), &bytes);
+    let _ = count(&Record::from(bytes).request());
+}
+
+#[test]
+fn words_of_every_kind() {
+    let mut r = Random(5);
+    let (mut taken, mut refused) = (0, 0);
+    for _ in 0..400_000 {
+        let mut words = [0; ENTRY_WORDS];
+        words[0] = if r.once_in(9) {
+            r.next()
+        } else {
+            r.from(0, 6) as u64
+        };
+        let bits = [1, 8, 16, 31, 64][r.next() as usize % 5];
+        for word in &mut words[1..] {
+            *word = if r.once_in(2) {
+                0
+            } else {
+                r.next() >> (64 - bits)
+            };
+        }
+        for mode in MODES {
+            match Entry::from_words(&words, mode) {
+                Ok(entry) => {
+                    assert_eq!(entry.to_words(), words);
+                    Bank::default().apply(&entry);
+                    taken += 1;
+                }
+                Err(no) => {
+                    assert!(no.place < ENTRY_WORDS && no.word == words[no.place]);
+                    assert!(!no.to_string().is_empty());
+                    refused += 1;
+                }
+            }
+        }
+    }
+    assert!(taken > 10_000 && refused > 10_000, "{taken} {refused}");
+}
+
+/// An entry of the kind 2 to 4 sets its tile alone; one of a tile that is not there sets nothing.
+#[test]
+fn applied_entries() {
+    let mut r = Random(6);
+    for _ in 0..100_000 {
+        let mut words = [0; ENTRY_WORDS];
+        words[0] = r.from(1, 5) as u64;
+        words[1] = r.from(0, 9) as u64;
+        let bits = if words[0] == 3 || words[0] == 4 {
+            16
+        } else {
+            8
+        };
+        for word in &mut words[2..6] {
+            *word = r.next() >> (64 - bits);
+        }
+        if words[0] == 1 {
+            words[5] = 0;
+        }
+        let Ok(entry) = Entry::from_words(&words, Mode::Copy) else {
+            continue;
+        };
+        let mut before = Bank::default();
+        before.tiles.fill_with(|| Tile {
+            uls: r.next() as u16,
+            shifts: 3,
+            ..Tile::default()
+        });
+        let mut after = before;
+        after.apply(&entry);
+        let index = words[1] as usize;
+        for (n, (old, new)) in before.tiles.iter().zip(&after.tiles).enumerate() {
+            let sets = n == index && (2..=4).contains(&words[0]);
+            assert!(sets || old == new, "{words:?}");
+            let kept = if words[0] == 2 {
+                new.uls == old.uls && new.shifts == 0
+            } else {
+                new.shifts == 3
+            };
+            assert!(!sets || kept, "{words:?}");
+        }
+    }
+}
+
+#[test]
+fn extreme_numbers() {
+    for number in [i32::MIN, -1, 0, 1, i32::MAX] {
+        let _ = (Quarters(number).whole(), ThirtySeconds(number).whole());
+        assert!(
+            f64::from(Quarters(number)).is_finite() && f64::from(ThirtySeconds(number)).is_finite()
+        );
+    }
+    assert!(f64::from(Scale(u16::MAX)) < 64.0);
+    assert!((0..=255).filter_map(Mode::of).count() == 2);
+    assert!(Verdict::try_from(u64::MAX).is_err() && version()[0] < 256);
+    let zero = Object::decode(&[0; 40], Mode::Scaled).expect("40 bytes");
+    assert!(matches!(
+        zero.kind,
+        Kind::Scaled {
+            scale_w: Scale(1),
+            scale_h: Scale(1),
+            ..
+        }
+    ));
+}
+
+/// Each field by itself: its bytes at its offset, signed or not, and no other field.
+#[test]
+fn object_fields() {
+    let mut r = Random(7);
+    for _ in 0..2_000 {
+        let mut bytes = [0; 40];
+        r.fill(&mut bytes);
+        let half = |at: usize| i32::from(bytes[at]) * 256 + i32::from(bytes[at + 1]);
+        let signed = |at: usize| (half(at) + 32_768) % 65_536 - 32_768;
+        let o = Object::decode(&bytes, Mode::Copy).expect("40 bytes");
+        assert_eq!(
+            [o.image_w, o.frame_w, o.image_h, o.frame_h].map(|q| q.0),
+            [2, 6, 10, 14].map(half)
+        );
+        assert_eq!([o.frame_x, o.frame_y].map(|q| q.0), [4, 12].map(signed));
+        assert_eq!([o.image_x, o.image_y].map(|q| q.0), [0, 8].map(half));
+        assert_eq!(
+            [o.image_load, o.image_pal, o.image_flip].map(i32::from),
+            [20, 24, 26].map(half)
+        );
+        assert_eq!([o.image_fmt, o.image_siz], [bytes[22], bytes[23]]);
+        assert_eq!(o.image_ptr.to_be_bytes(), bytes[16..20]);
+        let Kind::Copy {
+            tmem_w,
+            tmem_h,
+            tmem_load_sh,
+            tmem_load_th,
+            tmem_size_w,
+            tmem_size,
+        } = o.kind
+        else {
+            panic!("a copy object")
+        };
+        let halves = [tmem_w, tmem_load_sh, tmem_load_th, tmem_size_w, tmem_size].map(i32::from);
+        assert_eq!(
+            (halves, tmem_h.0),
+            ([28, 32, 34, 36, 38].map(half), half(30))
+        );
+        let s = Object::decode(&bytes[..36], Mode::Scaled).expect("36 bytes");
+        let Kind::Scaled {
+            scale_w,
+            scale_h,
+            image_y_orig,
+        } = s.kind
+        else {
+            panic!("a scaled object")
+        };
+        assert_eq!(
+            [scale_w, scale_h].map(|s| i32::from(s.0)),
+            [28, 30].map(|at| half(at).max(1))
+        );
+        assert_eq!(image_y_orig.0.to_be_bytes(), bytes[32..36]);
+    }
+}
