@@ -291,6 +291,28 @@ fn bank_difference(
     None
 }
 
+/// The Rust's entries applied one after another: each is taken, and the bank is the run's, but for
+/// tile 7's bounds where a load was refused.
+fn applied_difference(
+    entries: &[entry::Entry],
+    expected: &Answer,
+    before: &[u64; BANK_WORDS],
+    given: &[u64],
+) -> Option<String> {
+    let mut bank = *before;
+    for (n, entry) in entries.iter().enumerate() {
+        let status = proved::apply(entry, &mut bank);
+        if status != 0 {
+            return Some(format!("entry {n} applied: returned {status}\n"));
+        }
+    }
+    if expected.end.verdict == 9 && expected.plan.refused_load {
+        bank[bounds_of(7)].copy_from_slice(&given[bounds_of(7)]);
+    }
+    let word = bank.iter().zip(given).position(|(mine, run)| mine != run);
+    word.map(|n| format!("bank word {n}: {} by entries, {} by the run\n", bank[n], given[n]))
+}
+
 fn numbers(end: &End) -> [u64; END_WORDS] {
     [end.verdict, end.entries, end.rectangles, end.tile_words]
 }
@@ -338,6 +360,7 @@ fn difference(
     }
     let given = buffers.bank.inside();
     text.extend(bank_difference(&entries[..count], expected, before, given));
+    text.extend(applied_difference(&entries[..count], expected, before, given));
     if !buffers.plan.untouched_but(11 * count) {
         text.push_str(
             "words of the plan buffer beyond the last entry, or around it, are changed\n",
