@@ -211,6 +211,81 @@ impl Words<'_> {
     }
 }
 
+impl Image {
+    fn read(from: &mut Words) -> Result<Image, NoEntry> {
+        Ok(Image {
+            fmt: from.field()?,
+            siz: from.field()?,
+            width: from.field()?,
+            address: from.field()?,
+        })
+    }
+}
+
+impl SetTile {
+    fn read(from: &mut Words) -> Result<SetTile, NoEntry> {
+        Ok(SetTile {
+            index: from.field()?,
+            fmt: from.field()?,
+            siz: from.field()?,
+            line: from.field()?,
+            tmem: from.field()?,
+            palette: from.field()?,
+            cms: from.field()?,
+            cmt: from.field()?,
+            masks: from.field()?,
+            maskt: from.field()?,
+        })
+    }
+}
+
+impl Size {
+    fn read(from: &mut Words) -> Result<Size, NoEntry> {
+        Ok(Size {
+            index: from.field()?,
+            uls: from.field()?,
+            ult: from.field()?,
+            lrs: from.field()?,
+            lrt: from.field()?,
+        })
+    }
+}
+
+impl Load {
+    fn read(from: &mut Words) -> Result<Load, NoEntry> {
+        Ok(Load {
+            index: from.field()?,
+            uls: from.field()?,
+            ult: from.field()?,
+            lrs: from.field()?,
+            lrt: from.field()?,
+            words: from.field()?,
+            rows: from.field()?,
+            stride: from.field()?,
+            start: from.field()?,
+            length: from.field()?,
+        })
+    }
+}
+
+impl Rect {
+    fn read(from: &mut Words, mode: Mode) -> Result<Rect, NoEntry> {
+        Ok(Rect {
+            mode,
+            tile: from.field()?,
+            ulx: from.signed()?,
+            uly: from.signed()?,
+            lrx: from.signed()?,
+            lry: from.signed()?,
+            uls: from.signed()?,
+            ult: from.signed()?,
+            dsdx: from.signed()?,
+            dtdy: from.signed()?,
+            row: from.field()?,
+        })
+    }
+}
+
 impl Entry {
     /// The entry of eleven words in a plan of that mode.
     ///
@@ -221,56 +296,11 @@ impl Entry {
     pub fn from_words(words: &[u64; ENTRY_WORDS], mode: Mode) -> Result<Entry, NoEntry> {
         let mut from = Words { words, next: 1 };
         let entry = match words[0] {
-            1 => Entry::Image(Image {
-                fmt: from.field()?,
-                siz: from.field()?,
-                width: from.field()?,
-                address: from.field()?,
-            }),
-            2 => Entry::Tile(SetTile {
-                index: from.field()?,
-                fmt: from.field()?,
-                siz: from.field()?,
-                line: from.field()?,
-                tmem: from.field()?,
-                palette: from.field()?,
-                cms: from.field()?,
-                cmt: from.field()?,
-                masks: from.field()?,
-                maskt: from.field()?,
-            }),
-            3 => Entry::Size(Size {
-                index: from.field()?,
-                uls: from.field()?,
-                ult: from.field()?,
-                lrs: from.field()?,
-                lrt: from.field()?,
-            }),
-            4 => Entry::Load(Load {
-                index: from.field()?,
-                uls: from.field()?,
-                ult: from.field()?,
-                lrs: from.field()?,
-                lrt: from.field()?,
-                words: from.field()?,
-                rows: from.field()?,
-                stride: from.field()?,
-                start: from.field()?,
-                length: from.field()?,
-            }),
-            5 => Entry::Rect(Rect {
-                mode,
-                tile: from.field()?,
-                ulx: from.signed()?,
-                uly: from.signed()?,
-                lrx: from.signed()?,
-                lry: from.signed()?,
-                uls: from.signed()?,
-                ult: from.signed()?,
-                dsdx: from.signed()?,
-                dtdy: from.signed()?,
-                row: from.field()?,
-            }),
+            1 => Entry::Image(Image::read(&mut from)?),
+            2 => Entry::Tile(SetTile::read(&mut from)?),
+            3 => Entry::Size(Size::read(&mut from)?),
+            4 => Entry::Load(Load::read(&mut from)?),
+            5 => Entry::Rect(Rect::read(&mut from, mode)?),
             word => return Err(NoEntry { place: 0, word }),
         };
         from.done(entry)

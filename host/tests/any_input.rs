@@ -245,57 +245,54 @@ fn extreme_numbers() {
     ));
 }
 
-/// Each field by itself: its bytes at its offset, signed or not, and no other field.
+/// A field of two bytes, by hand.
+fn half(bytes: &[u8], at: usize) -> i32 {
+    i32::from(bytes[at]) * 256 + i32::from(bytes[at + 1])
+}
+
+fn common_fields(bytes: &[u8]) {
+    let half = |at: usize| half(bytes, at);
+    let signed = |at: usize| (half(at) + 32_768) % 65_536 - 32_768;
+    let o = Object::decode(bytes, Mode::Copy).expect("40 bytes");
+    let lengths = [o.image_w, o.frame_w, o.image_h, o.frame_h].map(|q| q.0);
+    assert_eq!(lengths, [2, 6, 10, 14].map(half));
+    assert_eq!([o.frame_x, o.frame_y].map(|q| q.0), [4, 12].map(signed));
+    assert_eq!([o.image_x, o.image_y].map(|q| q.0), [0, 8].map(half));
+    let numbers = [o.image_load, o.image_pal, o.image_flip].map(i32::from);
+    assert_eq!(numbers, [20, 24, 26].map(half));
+    assert_eq!([o.image_fmt, o.image_siz], [bytes[22], bytes[23]]);
+    assert_eq!(o.image_ptr.to_be_bytes(), bytes[16..20]);
+}
+
+fn own_fields(bytes: &[u8]) {
+    let half = |at: usize| half(bytes, at);
+    let copy = Object::decode(bytes, Mode::Copy).expect("40 bytes");
+    let kind = Kind::Copy {
+        tmem_w: half(28) as u16,
+        tmem_h: Quarters(half(30)),
+        tmem_load_sh: half(32) as u16,
+        tmem_load_th: half(34) as u16,
+        tmem_size_w: half(36) as u16,
+        tmem_size: half(38) as u16,
+    };
+    assert_eq!(copy.kind, kind);
+    let scaled = Object::decode(&bytes[..36], Mode::Scaled).expect("36 bytes");
+    let kind = Kind::Scaled {
+        scale_w: Scale(half(28).max(1) as u16),
+        scale_h: Scale(half(30).max(1) as u16),
+        image_y_orig: ThirtySeconds(half(32).wrapping_shl(16) | half(34)),
+    };
+    assert_eq!(scaled.kind, kind);
+}
+
+/// Each field has its bytes at its offset, signed or not, and no others.
 #[test]
 fn object_fields() {
     let mut r = Random(7);
     for _ in 0..2_000 {
         let mut bytes = [0; 40];
         r.fill(&mut bytes);
-        let half = |at: usize| i32::from(bytes[at]) * 256 + i32::from(bytes[at + 1]);
-        let signed = |at: usize| (half(at) + 32_768) % 65_536 - 32_768;
-        let o = Object::decode(&bytes, Mode::Copy).expect("40 bytes");
-        assert_eq!(
-            [o.image_w, o.frame_w, o.image_h, o.frame_h].map(|q| q.0),
-            [2, 6, 10, 14].map(half)
-        );
-        assert_eq!([o.frame_x, o.frame_y].map(|q| q.0), [4, 12].map(signed));
-        assert_eq!([o.image_x, o.image_y].map(|q| q.0), [0, 8].map(half));
-        assert_eq!(
-            [o.image_load, o.image_pal, o.image_flip].map(i32::from),
-            [20, 24, 26].map(half)
-        );
-        assert_eq!([o.image_fmt, o.image_siz], [bytes[22], bytes[23]]);
-        assert_eq!(o.image_ptr.to_be_bytes(), bytes[16..20]);
-        let Kind::Copy {
-            tmem_w,
-            tmem_h,
-            tmem_load_sh,
-            tmem_load_th,
-            tmem_size_w,
-            tmem_size,
-        } = o.kind
-        else {
-            panic!("a copy object")
-        };
-        let halves = [tmem_w, tmem_load_sh, tmem_load_th, tmem_size_w, tmem_size].map(i32::from);
-        assert_eq!(
-            (halves, tmem_h.0),
-            ([28, 32, 34, 36, 38].map(half), half(30))
-        );
-        let s = Object::decode(&bytes[..36], Mode::Scaled).expect("36 bytes");
-        let Kind::Scaled {
-            scale_w,
-            scale_h,
-            image_y_orig,
-        } = s.kind
-        else {
-            panic!("a scaled object")
-        };
-        assert_eq!(
-            [scale_w, scale_h].map(|s| i32::from(s.0)),
-            [28, 30].map(|at| half(at).max(1))
-        );
-        assert_eq!(image_y_orig.0.to_be_bytes(), bytes[32..36]);
+        common_fields(&bytes);
+        own_fields(&bytes);
     }
 }
