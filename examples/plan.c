@@ -113,8 +113,8 @@ static int plan(const uint8_t *record) {
     free(entries);
     printf(" 9%8" PRIu64 "%8" PRIu64 "%8" PRIu64 "%8" PRIu64 "\n", end[VISOR_END_VERDICT], end[VISOR_END_ENTRIES],
            end[VISOR_END_RECTANGLES], end[VISOR_END_TILE_WORDS]);
-    if (end[VISOR_END_VERDICT] != VISOR_FINISHED) fprintf(stderr, "plan: %s\n", visor_verdict_text(end[VISOR_END_VERDICT]));
-    return end[VISOR_END_VERDICT] == VISOR_FINISHED ? 0 : 1;
+    if (end[VISOR_END_VERDICT] != VISOR_VERDICT_FINISHED) fprintf(stderr, "plan: %s\n", visor_verdict_text(end[VISOR_END_VERDICT]));
+    return end[VISOR_END_VERDICT] == VISOR_VERDICT_FINISHED ? 0 : 1;
 }
 
 static int read_record(const char *path, uint8_t *record) {

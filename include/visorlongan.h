@@ -6,11 +6,12 @@
 
    Platform: x86-64 Linux, libvisorlongan.a. The archive needs no other library, not even C's.
 
-   CALLS. A slice is passed as a pointer and a length in elements. Where the length is 0 the pointer may be null. Pointers are
-   aligned for their elements. The slices that a call writes lie apart from each other and from those that it reads; nothing
+   CALLS. An array is passed as a pointer and a length in elements. Where the length is 0 the pointer may be null. Pointers are
+   aligned for their elements. The arrays that a call writes lie apart from each other and from those that it reads; nothing
    else touches them during the call. Any lengths and any values are fine: a call always ends, reads and writes inside the
    lengths that it is given, allocates nothing, and keeps nothing between calls, so threads may call at once.
-   Each call answers 0, or 1 where a length is not the one named below; then it has changed nothing.
+   visor_run, visor_count and visor_apply answer 0, or 1 where a length is not the one named below; then they have changed
+   nothing.
 
    NUMBERS. A word is a uint64_t. A signed number is stored modulo 2^64: (int64_t)word gives it back. Units: a *quarter* is a
    quarter of a texel or of a pixel (10.2), a *thirty-second* is one of a texel (10.5), a *scale* has 1,024 as 1 (5.10). */
@@ -101,14 +102,16 @@ enum visor_load {
     VISOR_LOAD_LRS = 4,
     VISOR_LOAD_LRT = 5,
     VISOR_LOAD_WORDS = 6,  /* words of 8 bytes that each row has */
-    VISOR_LOAD_ROWS = 7,   /* rows; row r goes to texture memory at the tile's tmem + r * the tile's line */
+    VISOR_LOAD_ROWS = 7,   /* rows; row r goes to texture memory at the tile's tmem + r * the tile's line; of 32-bit texels */
+                           /*   the first 16 bits go there and the others to the same place in the upper 2 KB */
     VISOR_LOAD_STRIDE = 8, /* bytes from row to row in memory */
     VISOR_LOAD_START = 9,  /* the address of the first byte */
     VISOR_LOAD_LENGTH = 10 /* bytes from the first to the last that is read */
 };
 
 /* The corners of a rectangle are quarters of a pixel. Copy: the ends are inclusive, (lrx - ulx) / 4 + 1 pixels across and
-   (lry - uly) / 4 + 1 lines down. Scaled: the ends are exclusive, (lrx - ulx) / 4 and (lry - uly) / 4. */
+   (lry - uly) / 4 + 1 lines down. Scaled: the ends are exclusive, (lrx - ulx) / 4 across, which may leave a part of a pixel,
+   and (lry - uly) / 4 lines down. */
 enum visor_rect {
     VISOR_RECT_TILE = 1, /* 0 */
     VISOR_RECT_ULX = 2,
@@ -153,53 +156,53 @@ enum visor_bank {
 #define VISOR_END_WORDS 4
 
 enum visor_end {
-    VISOR_END_VERDICT = 0,    /* VISOR_FINISHED, or why the plan stops */
+    VISOR_END_VERDICT = 0,    /* VISOR_VERDICT_FINISHED, or why the plan stops */
     VISOR_END_ENTRIES = 1,    /* entries that stand */
     VISOR_END_RECTANGLES = 2, /* rectangles among them */
-    VISOR_END_TILE_WORDS = 3  /* the most texture memory that one load fills, in words of 8 bytes */
+    VISOR_END_TILE_WORDS = 3  /* the greatest rows * line of one load, in words of 8 bytes (10.2) */
 };
 
 /* 1 to 6: nothing is written, neither plan nor bank. 7 to 10: the entries before the refusal stand. */
 enum visor_verdict {
-    VISOR_FINISHED = 0,
-    VISOR_OPCODE = 1,
-    VISOR_SHORT = 2,
-    VISOR_SCISSOR = 3,
-    VISOR_OBJECT = 4,
-    VISOR_COPY = 5,
-    VISOR_SLICES = 6,
-    VISOR_TOO_BIG = 7,
-    VISOR_PIECE = 8,
-    VISOR_ADDRESS = 9,
-    VISOR_FULL = 10
+    VISOR_VERDICT_FINISHED = 0,
+    VISOR_VERDICT_OPCODE = 1,
+    VISOR_VERDICT_SHORT = 2,
+    VISOR_VERDICT_SCISSOR = 3,
+    VISOR_VERDICT_OBJECT = 4,
+    VISOR_VERDICT_COPY = 5,
+    VISOR_VERDICT_SLICES = 6,
+    VISOR_VERDICT_TOO_BIG = 7,
+    VISOR_VERDICT_PIECE = 8,
+    VISOR_VERDICT_ADDRESS = 9,
+    VISOR_VERDICT_FULL = 10
 };
 
 /* What a verdict says, as a sentence in English; of a number that is no verdict, that it is none. */
 static inline const char *visor_verdict_text(uint64_t verdict) {
     switch (verdict) {
-    case VISOR_FINISHED:
+    case VISOR_VERDICT_FINISHED:
         return "The plan is complete.";
-    case VISOR_OPCODE:
+    case VISOR_VERDICT_OPCODE:
         return "The opcode is neither 9 (scaled) nor 10 (copy).";
-    case VISOR_SHORT:
+    case VISOR_VERDICT_SHORT:
         return "The object has fewer than 40 bytes for a copy or 36 for a scaled background.";
-    case VISOR_SCISSOR:
+    case VISOR_VERDICT_SCISSOR:
         return "A scissor edge lies outside 0 to 1,023.";
-    case VISOR_OBJECT:
+    case VISOR_VERDICT_OBJECT:
         return "The object has a width or height of 0, a size above 3, a format above 4 or an unknown load.";
-    case VISOR_COPY:
-        return "The copy object has the wrong load, an image under 4 units, tile memory fields that do not fit each other or a "
-               "flip above 1.";
-    case VISOR_SLICES:
-        return "The scaled object has an image under 4 units high, or no row of it fits texture memory, or its rows have no "
-               "bytes.";
-    case VISOR_TOO_BIG:
+    case VISOR_VERDICT_COPY:
+        return "The copy object has a load other than 0xfff4, an image or a tmem_h under 4 units, a tmem_size_w of 0, tile memory "
+               "fields whose product is another, or a flip above 1.";
+    case VISOR_VERDICT_SLICES:
+        return "The scaled object has an image under 4 units high, rows of less than 8 bytes, or rows so long that texture memory "
+               "does not hold a strip of them.";
+    case VISOR_VERDICT_TOO_BIG:
         return "A copy strip does not fit texture memory.";
-    case VISOR_PIECE:
-        return "A part of a scaled strip has no rows or no width, or no place.";
-    case VISOR_ADDRESS:
+    case VISOR_VERDICT_PIECE:
+        return "A part of a scaled strip has no rows, no width or no place in texture memory.";
+    case VISOR_VERDICT_ADDRESS:
         return "An image address leaves the 64-bit address space.";
-    case VISOR_FULL:
+    case VISOR_VERDICT_FULL:
         return "The plan buffer has no room for the next entry.";
     default:
         return "This number is no verdict.";
@@ -215,10 +218,10 @@ static inline const char *visor_verdict_text(uint64_t verdict) {
    THE BANK IN THE MIDDLE OF A PLAN. bank comes back as it is after the *last* entry that stands. A rectangle or a load in the
    middle is meant for the tiles as they are *there*: a host that draws keeps the bank from before the run, and calls
    visor_apply for each entry before it acts on it. With all entries applied it has the bank that visor_run left, with one
-   exception: a copy load that is refused (VISOR_ADDRESS) has already set the bounds of tile 7, which is no entry; take the
+   exception: a copy load that is refused (VISOR_VERDICT_ADDRESS) has already set the bounds of tile 7, which is no entry; take the
    bank of visor_run then. A host that stops in the middle goes on with the bank that it has applied so far.
 
-   VISOR_FULL says that plan had no room for the next entry; the entries that fitted stand, and bank is theirs.
+   VISOR_VERDICT_FULL says that plan had no room for the next entry; the entries that fitted stand, and bank is theirs.
    Lengths: VISOR_REQUEST_WORDS, VISOR_BANK_WORDS, VISOR_END_WORDS; object and plan may have any. */
 uint64_t visor_run(const uint8_t *object, size_t object_bytes, const uint64_t *request, size_t request_words, uint64_t *bank,
                    size_t bank_words, uint64_t *plan, size_t plan_words, uint64_t *end, size_t end_words);

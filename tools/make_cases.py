@@ -1,17 +1,18 @@
 #!/usr/bin/env python3
-"""Writes antt modules that hold the definitions of the crate plan against the oracle's answers and document 01's figures.
+"""Writes antt modules that hold the definitions of the crate plan against the oracle's answers and the figures of
+docs/SPECIFICATION.md, section 13.
 
   make_cases.py ORACLE CASES RECORDS CRATES     plan/specs/Unit.antt, plan/specs/Edges.antt and cases/specs/Sample.antt below CRATES
 
 ORACLE is the program that differential/build makes, CASES the folder that `oracle --cases` writes, RECORDS the list of crates/replay, in which
-the sample records stand after document 01's cases. Every expected number comes from the oracle's output, and what document 01 says of its
-cases from SAID below. `differential/run cases` runs this, and `differential/run answers` holds the files against it.
+the sample records stand after the worked cases. Every expected number comes from the oracle's output, and what the specification says of
+its cases from SAID below. `differential/run cases` runs this, and `differential/run answers` holds the files against it.
 """
 import struct, subprocess, sys
 
 SEVEN = 7
 
-# document 01, "Cases": its words, and what they say besides L's plan, which is printed there whole
+# SPECIFICATION 13.3 and 13.4 as 14.1 words them, and what they say besides L's plan, which is printed in 12.5 whole
 SAID = {
     'L': ('"Case L: copy, image and frame 64 by 8 units at 0"', ['answers 0', 'entries 6', 'rects 1', 'words 8']),
     'A': ('"A: L at 1280 by 960, tmem_h 24, load_sh 24: 40 rectangles, 201 entries"', ['answers 0', 'rects 40', 'entries 201']),
@@ -75,13 +76,13 @@ def records(path):
     return [data[i:i + 61] for i in range(0, len(data), 64)]
 
 def copy(w, h, fw=None, fh=None, th=8, x=0, y=0, fx=0, fy=0, siz=2, fmt=0, flip=0, right=320, load=0xfff4, size_w=1, pal=0, address=4096):
-    """document 01's case L, with changes"""
+    """case L, with changes"""
     return (struct.pack('>HHhHHHhHIHBBHH', x, w, fx, fw or w, y, h, fy, fh or h, 0, load, fmt, siz, pal, flip)
             + struct.pack('>HHHHHH', 0, th, th * size_w % 65536, 0, size_w, th * size_w // 65536)
             + struct.pack('>HHHHIBQ', 0, 0, right, 240, 0, 10, address))
 
 def scaled(w=1280, h=960, fw=None, fh=None, sw=1024, sh=1024, x=0, y=0, fx=0, fy=0, siz=2, fmt=0, flip=0, origin=0, right=320, mode=0, pal=0, address=4096):
-    """document 01's case E, with changes"""
+    """case E, with changes"""
     return (struct.pack('>HHhHHHhHIHBBHH', x, w, fx, fw or w, y, h, fy, fh or h, 0, 0xfff4, fmt, siz, pal, flip)
             + struct.pack('>HHiI', sw, sh, origin, 0) + struct.pack('>HHHHIBQ', 0, 0, right, 240, mode, 9, address))
 
@@ -129,7 +130,7 @@ def main():
     case = lambda name: ('D ' + SAID[name][0], row(oracle, open(f'{cases}/{name}.bin', 'rb').read(), int(counts[name]), said=SAID[name][1]))
     sample = records(replayed)[len(counts):len(counts) + SAMPLES]
     picked = [(f'sample record {i}: {c}', sample[i]) for i, c in PICKED]
-    module(oracle, f'{crates}/plan/specs/Unit.antt', 'Document 01\'s cases L, A, B, C, D, E, G, H, I, J, in this order, as a unit: from the 61 bytes to the whole plan, the bank, and the figures of document 01.', [('unit', [case(c) for c in 'L A B C D E G H I J'.split()])])
+    module(oracle, f'{crates}/plan/specs/Unit.antt', 'The worked cases L, A, B, C, D, E, G, H, I, J, in this order, as a unit: from the 61 bytes to the whole plan, the bank, and the figures of docs/SPECIFICATION.md, section 13, which the quotes call D.', [('unit', [case(c) for c in 'L A B C D E G H I J'.split()])])
     module(oracle, f'{crates}/plan/specs/Edges.antt', 'Records at the edges of the rules.', [('edges', [(c, row(oracle, r)) for c, r in EDGES + picked])], 'Unit')
     module(oracle, f'{crates}/cases/specs/Sample.antt', 'The sample records of crates/replay.', [('sample', [('', row(oracle, r)) for r in sample])], 'Unit')
 

@@ -1,4 +1,4 @@
-//! The named cases of document 01.
+//! The worked cases of docs/SPECIFICATION.md, section 13.
 
 use crate::record::{Object, Record, COPY, SCALED};
 

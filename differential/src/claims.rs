@@ -1,4 +1,5 @@
-//! Sentences of document 01 held against the recorded plans, and the lines of a scaled plan.
+//! Sentences of docs/SPECIFICATION.md held against the recorded plans, and the lines of a scaled
+//! plan.
 
 use crate::entry::{Entry, IMAGE, LOAD, RECTANGLE, SIZE, TILE};
 use crate::record::{Bank, Record, COPY, SCALED};
@@ -25,7 +26,7 @@ pub struct Drift {
     pub lines: Vec<Line>,
 }
 
-/// Document 01's sampled and exact positions for each line of a scaled plan.
+/// The sampled and exact positions (SPECIFICATION 11.5) for each line of a scaled plan.
 pub fn drift(answer: &Answer) -> Option<Drift> {
     let bg = answer.object?;
     let slices = answer.plan.notes.slices?;
@@ -72,7 +73,8 @@ impl Drift {
         }
     }
 
-    /// How far behind document 01 lets a line be; for origins between rows, document 02.
+    /// How far behind SPECIFICATION 11.6 lets a line be; for origins between rows, which 11.1 leaves
+    /// out, `between-rows` of crates/drift/specs/Proof.antt.
     fn behind(&self) -> i64 {
         self.step + if self.whole_origin { 30 } else { 1022 }
     }
@@ -115,8 +117,9 @@ pub fn print_lines(drift: &Drift, out: &mut String) {
     }
 }
 
-/// No sentence of document 01; some plans break it.
-const UNSAID: &str = "(no sentence of 01) scaled: a strip's only load starts inside the image";
+/// No sentence of the specification: by SPECIFICATION 8.24 some plans break it.
+const UNSAID: &str =
+    "(no sentence of the specification) scaled: a strip's only load starts inside the image";
 const DRIFT: &str = "drift:";
 const DRIFT_CLAIMED: &str =
     "drift: whole image rows yes, whole origin yes, at or below origin yes";
@@ -259,7 +262,8 @@ impl Claims {
         }
     }
 
-    /// Whether everything that document 01 claims holds: of the drift, where its conditions are met.
+    /// Whether everything that the specification claims holds: of the drift, where its conditions
+    /// (SPECIFICATION 11.1) are met.
     pub fn hold(&self) -> bool {
         let claimed = |name: &str| {
             name != UNSAID && (!name.starts_with(DRIFT) || name.starts_with(DRIFT_CLAIMED))
@@ -300,7 +304,7 @@ pub fn hex(record: &Record) -> String {
         .collect()
 }
 
-/// Document 01's rule: a size also sets width and height, max(1, floor(difference / 4) + 1).
+/// SPECIFICATION 5.3: a size also sets width and height, max(1, floor(difference / 4) + 1).
 fn set_size(bank: &mut Bank, entry: &Entry) {
     let tile = &mut bank[entry[1] as usize];
     let [uls, ult, lrs, lrt] = [2, 3, 4, 5].map(|n| entry[n] as i64);
@@ -313,7 +317,7 @@ fn set_size(bank: &mut Bank, entry: &Entry) {
     tile.height = extent(ult, lrt);
 }
 
-/// The bank after the entries, by document 01's rules for tiles, sizes and loads.
+/// The bank after the entries, by the rules for tiles, sizes and loads (SPECIFICATION 5.2 to 5.5).
 fn replayed(initial: &Bank, entries: &[Entry]) -> Bank {
     let mut bank = initial.clone();
     for entry in entries {
@@ -352,7 +356,7 @@ fn same_but_size(a: &Bank, b: &Bank) -> bool {
     strip(a) == strip(b)
 }
 
-/// Document 01's load request, from the entries alone.
+/// The load request (SPECIFICATION 6.3), from the entries alone.
 fn loads_hold(entries: &[Entry]) -> bool {
     let mut image = [0i128; 11];
     entries.iter().all(|entry| {

@@ -3,7 +3,7 @@
 //! Usage: compare RECORDS [SEED [THREADS]]
 //!        compare --record HEX [OBJECT_BYTES [BANK_SEED]]
 //!
-//! Document 01's cases, the records of edges.rs and the longest plan come first. Random records come in
+//! The worked cases, the records of edges.rs and the longest plan come first. Random records come in
 //! blocks of 1,000, each of one mode of the generator and from a seed of its own,
 //! so that the same records are compared whatever the number of threads. Each record has its own
 //! random bank and is run into a buffer with room for all, into one that is too short by 0 to 11
@@ -527,7 +527,7 @@ fn compare_all(records: u64, seed: u64, threads: usize) -> (Tally, Option<(u64, 
     shared.into_inner().unwrap()
 }
 
-/// Document 01's cases, the edge records and the longest plan; the first difference.
+/// The worked cases, the edge records and the longest plan; the first difference.
 fn compare_fixed(tally: &mut Tally) -> Option<String> {
     let named = cases::all().into_iter();
     let named = named.map(|case| Case::fixed(case.record, case.object_bytes));

@@ -1,4 +1,5 @@
-//! Document 01's plan entries: eleven words from the numbers of each call that a planner makes.
+//! The plan entries of docs/SPECIFICATION.md, section 9: eleven words from the numbers of each call
+//! that a planner makes.
 
 use crate::hle::interp::TexRect;
 use crate::hle::rdp::TileDescriptor;

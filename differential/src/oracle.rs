@@ -39,11 +39,11 @@ oracle [options] --digest FILE   for each record one line: verdict, entries, rec
 oracle [options] --coverage FILE how often each verdict and branch is met
 oracle [options] --sample FILE   a few small records for each verdict and each branch
 oracle [options] --find BRANCH FILE  number and bytes of the records that meet a branch
-oracle [options] --claims FILE   sentences of document 01 held against the plans
+oracle [options] --claims FILE   sentences of the specification held against the plans
 oracle --lines                   the lines of a scaled case from standard input
 oracle --gen SEED COUNT MODE     records; MODE: mixed copy scaled thin whole
                                    corners damaged wild
-oracle --cases DIRECTORY         document 01's cases as host/tests/cases has them: .bin, .txt and
+oracle --cases DIRECTORY         the worked cases as host/tests/cases has them: .bin, .txt and
                                    .bank files, list.txt and initial-bank.txt
 oracle [options] --initial-bank  the bank that the options name
 oracle --replay DIRECTORY        the list of crates/replay, its bank and the Rust's answers
@@ -196,7 +196,7 @@ fn perform(asked: Asked, out: &mut Output) {
             out.put(&text);
             if !claims.hold() {
                 out.flush();
-                fail(&file, "a sentence of document 01 is broken");
+                fail(&file, "a sentence of the specification is broken");
             }
         }
         Task::Lines => {

@@ -1,4 +1,4 @@
-//! The recorder: the calls that the planners make, as document 01's plan entries.
+//! The recorder: the calls that the planners make, as the specification's plan entries.
 
 use crate::entry::{self, print_entry, Entry, RECTANGLE};
 use crate::fnv::Fnv;
@@ -63,7 +63,7 @@ impl Notes {
         self.most_empty_passes = self.most_empty_passes.max(self.empty_passes);
     }
 
-    /// Document 01's image row, as `remain` stands before the strip's loads.
+    /// The image row (SPECIFICATION 8.12 step 4), as `remain` stands before the strip's loads.
     pub fn before_loads(&mut self, source_rows: i64, remain: i64) {
         self.image_row = (source_rows - remain).rem_euclid(source_rows);
         self.least_remain = self.least_remain.min(remain);

@@ -46,7 +46,7 @@ impl Record {
     }
 }
 
-/// The object's fields for writing, at document 01's offsets.
+/// The object's fields for writing, at the offsets of docs/SPECIFICATION.md, section 3.
 #[derive(Clone, Copy, Debug, Default)]
 pub struct Object {
     pub image_x: u16,

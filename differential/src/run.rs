@@ -1,4 +1,4 @@
-//! Runs one case through the untouched and the noted planner and gives document 01's answer.
+//! Runs one case through the untouched and the noted planner and gives the specification's answer.
 
 use crate::diag::{DiagKind, Diagnostic, MemoryAccess};
 use crate::hle::mem::{MemoryError, MemoryErrorKind, ObjBg, ObjBgKind, Rdram};
@@ -103,7 +103,8 @@ fn rust_verdict(outcome: &Outcome, copy: bool) -> u64 {
     }
 }
 
-/// Verdicts 4, 5 and 6 by the wording of document 01, to hold against the Rust's.
+/// Verdicts 4, 5 and 6 by the wording of SPECIFICATION 4.4, 4.5 and 8.6, to hold against the
+/// Rust's.
 fn document_verdict(bg: &ObjBg, copy: bool, plan: &Plan) -> Option<u64> {
     if bg.image_w == 0
         || bg.image_h == 0

@@ -71,15 +71,17 @@ impl Verdict {
                  unknown load."
             }
             Verdict::Copy => {
-                "The copy object has the wrong load, an image under 4 units, tile memory fields \
-                 that do not fit each other or a flip above 1."
+                "The copy object has a load other than 0xfff4, an image or a tmem_h under 4 units, \
+                 a tmem_size_w of 0, tile memory fields whose product is another, or a flip above 1."
             }
             Verdict::Slices => {
-                "The scaled object has an image under 4 units high, or no row of it fits texture \
-                 memory, or its rows have no bytes."
+                "The scaled object has an image under 4 units high, rows of less than 8 bytes, or \
+                 rows so long that texture memory does not hold a strip of them."
             }
             Verdict::TooBig => "A copy strip does not fit texture memory.",
-            Verdict::Piece => "A part of a scaled strip has no rows or no width, or no place.",
+            Verdict::Piece => {
+                "A part of a scaled strip has no rows, no width or no place in texture memory."
+            }
             Verdict::Address => "An image address leaves the 64-bit address space.",
             Verdict::Full => "The plan buffer has no room for the next entry.",
         }
@@ -130,7 +132,8 @@ pub struct End {
     pub entries: u64,
     /// Rectangles among them.
     pub rectangles: u64,
-    /// The most texture memory that one load fills, in words of 64 bits.
+    /// The greatest rows × line of one load, in words of 8 bytes of texture memory. Loads of 32-bit
+    /// texels fill as many in its upper half besides.
     pub tile_words: u64,
 }
 

@@ -62,7 +62,7 @@ int main(void) {
     nothing(object, request);
     whole(object, request);
     applied();
-    for (uint64_t verdict = 0; verdict <= VISOR_FULL + 1; verdict++) printf("%s\n", visor_verdict_text(verdict));
+    for (uint64_t verdict = 0; verdict <= VISOR_VERDICT_FULL + 1; verdict++) printf("%s\n", visor_verdict_text(verdict));
     return 0;
 }
 "#;

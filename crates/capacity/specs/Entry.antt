@@ -1,4 +1,4 @@
--- An entry of a table of capacities, format by size.
+-- An entry of a table of capacities, format by size. D is docs/SPECIFICATION.md.
 -- Assumes nothing.
 use mathlib.Core.Path.{_≡_}
 use Prim.Native.Nat.{ℕ, _+_, _*_, _≤_, _<_}

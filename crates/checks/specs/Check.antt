@@ -1,4 +1,4 @@
--- The verdicts and their numbers, and the checks of a request in document 01's order: D "The verdict", rows 1 to 5.
+-- The verdicts and their numbers, and the checks of a request for verdicts 1 to 5, in the order of D 4.6. D is docs/SPECIFICATION.md, sections 2 and 4.
 -- Assumes nothing.
 use mathlib.Core.Bool.{Bool, true, false, not, _||_}
 use mathlib.Core.List.{List, [], _∷_}
@@ -16,7 +16,7 @@ use Rattle.object.specs.declared.types.Checked.the-variants as checked
 use Rattle.measures.specs.Measure.{quarters}
 use Rattle.object.specs.Layout.{sizeOf, decode}
 
--- D "returned": the number of a verdict
+-- D 4.1: the number of a verdict
 abbrev pub verdictNumber : Verdict → ℕ
 verdictNumber verdict.Finished = 0
 verdictNumber verdict.Opcode = 1
@@ -30,12 +30,12 @@ verdictNumber verdict.Piece = 8
 verdictNumber verdict.Address = 9
 verdictNumber verdict.Full = 10
 
--- whether any of a row's conditions holds
+-- whether any of a verdict's conditions holds
 abbrev pub any : List Bool → Bool
 any [] = false
 any (t ∷ ts) = t || any ts
 
--- D 1 "neither 9 nor 10"
+-- D verdict 1 "neither 9 nor 10"
 abbrev pub opcodeBad : ℕ → Bool
 opcodeBad opcode = not (eqb opcode 9 || eqb opcode 10)
 
@@ -43,18 +43,18 @@ opcodeBad opcode = not (eqb opcode 9 || eqb opcode 10)
 abbrev pub copies : ℕ → Bool
 copies opcode = eqb opcode 10
 
--- D 2 "under 40 bytes for copy, 36 for scaled"
+-- D verdict 2 "under 40 bytes for copy, 36 for scaled"
 abbrev pub short : ℕ → ℕ → List ℕ → Bool
 short p opcode bs = ltb (length bs) (sizeOf p (copies opcode))
 
--- D 3 "an edge outside 0..1023"
+-- D verdict 3 "an edge outside 0..1023"
 abbrev pub edgeBad : ℤ → Bool
 edgeBad edge = ltZ edge (pos 0) || ltZ (pos 1023) edge
 
 unfoldable pub scissorBad : Scissor → Bool
 scissorBad s = any (edgeBad (s .ulx) ∷ edgeBad (s .uly) ∷ edgeBad (s .lrx) ∷ edgeBad (s .lry) ∷ [])
 
--- D 4, R 87–93 of `read_bg`: its conditions in the row's order
+-- D 4.4, R 87–93 of `read_bg`: the conditions in D's order
 unfoldable pub objectFaults : ObjBg → List Bool
 objectFaults bg =
     eqb (quarters (bg .«image_w»)) 0
@@ -66,7 +66,7 @@ objectFaults bg =
     ∷ not (eqb (bg .«image_load») 0x0033 || eqb (bg .«image_load») 0xfff4)
     ∷ []
 
--- D 5, R 420–426: its conditions in the row's order
+-- D 4.5, R 420–426: the conditions in D's order
 unfoldable pub copyFaults : ObjBg → List Bool
 copyFaults bg =
     not (eqb (bg .«image_load») 0xfff4)

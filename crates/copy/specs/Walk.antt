@@ -1,4 +1,4 @@
--- One step of the copy walk: the entry that is due, and where the walk stands after it.
+-- One step of the copy walk: the entry that is due, and where the walk stands after it. D is docs/SPECIFICATION.md.
 -- Assumes nothing.
 use mathlib.Core.Path.{_≡_}
 use mathlib.Core.Bool.{Bool, true, false, cond}
@@ -118,7 +118,7 @@ dueEntry due.Rect p = rectEntry p
 
 -- ---- the answers, by stage
 
--- D 7 "a copy strip's line × height exceeds capacity"
+-- D verdict 7 "a copy strip's line × height exceeds capacity"
 abbrev pub tooBig : Place → Bool
 tooBig p = ltb (p .copy .capacity) (p .strip .line * p .«strip_height»)
 
@@ -126,7 +126,7 @@ unfoldable pub tile7Next : Bool → Place → CopyNext
 tile7Next true p = next.TooBig
 tile7Next false p = next.Entry (tileEntry p 7 0 0) stage.Tile0 p
 
--- D 9 "a copy load refused by 9 has already set tile 7's size"
+-- D verdict 9 "a copy load refused by 9 has already set tile 7's size"
 unfoldable pub loadNext : LoadRequest → Area → Place → CopyNext
 loadNext (request.Load words rows stride start length) a p = next.Entry (entry.Load 7 (a .uls) (a .ult) (a .lrs) (a .lrt) words rows stride start length) (stage.Strip due.Rect) p
 loadNext request.Overflow a p = next.Overflow (entry.Size 7 (a .uls) (a .ult) (a .lrs) (a .lrt))

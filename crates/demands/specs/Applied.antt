@@ -1,4 +1,4 @@
--- A host that follows a plan entry by entry has the bank of every entry: the plan's words, applied eleven at a time, set what the run sets. D is document 01, 'Tiles and the bank'.
+-- A host that follows a plan entry by entry has the bank of every entry: the plan's words, applied eleven at a time, set what the run sets. D is docs/SPECIFICATION.md, section 5.
 -- Assumes nothing.
 use mathlib.Core.Path.{_≡_, refl, sym, ap, subst, _∙_}
 use mathlib.Core.Bool.{Bool, true, false, cond, _&&_}

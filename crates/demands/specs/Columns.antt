@@ -1,4 +1,4 @@
--- Every number of a plan fits its column: read again, its digits are the number, and a negative one has room for its sign. D is document 01, 'Cases'.
+-- Every number of a plan fits its column: read again, its digits are the number, and a negative one has room for its sign. D is docs/SPECIFICATION.md, section 12.
 -- Assumes nothing.
 use mathlib.Core.Path.{_≡_, refl, sym, _∙_}
 use mathlib.Core.Bool.{Bool, true, false, cond, _&&_, true≢false}

@@ -1,4 +1,4 @@
--- The verdict table's last column for 1 to 6: nothing is written. Both walks refuse by 7, 8 and 9 alone, so a smaller verdict was given before any entry. D is document 01, 'The verdict'.
+-- The verdict table's last column for 1 to 6: nothing is written. Both walks refuse by 7, 8 and 9 alone, so a smaller verdict was given before any entry. D is docs/SPECIFICATION.md, section 4.
 -- Assumes nothing.
 use mathlib.Core.Path.{_≡_, refl}
 use mathlib.Core.Bool.{Bool, true, false, _||_}

@@ -1,4 +1,4 @@
--- Every load of a plan stands after a setting of tile 7. So tile words, which count from a line of 0, are those of the bank as it stands at each load, whatever bank a plan starts on. D is document 01, 'The plan entry'.
+-- Every load of a plan stands after a setting of tile 7. So tile words, which count from a line of 0, are those of the bank as it stands at each load, whatever bank a plan starts on. D is docs/SPECIFICATION.md, section 10.
 -- Assumes nothing.
 use mathlib.Core.Path.{_≡_, refl, sym, ap, subst, _∙_}
 use mathlib.Core.Bool.{Bool, true, false, cond, _||_, true≢false}

@@ -1,4 +1,4 @@
--- The numbers of a plan's entries are small, and its entries few: what a host's column, or its own field, may count on. D is document 01, 'The plan entry'.
+-- The numbers of a plan's entries are small, and its entries few: what a host's column, or its own field, may count on. The ranges are those of docs/SPECIFICATION.md, sections 9 and 10.
 -- Assumes nothing.
 use mathlib.Core.Path.{_≡_, refl}
 use mathlib.Core.Bool.{Bool, true, false}

@@ -1,4 +1,4 @@
--- The arithmetic of demand 3, over ℕ alone: how far a strip's first line is from its first row.
+-- The arithmetic of demand 3, over ℕ alone: how far a strip's first line is from its first row. D is docs/SPECIFICATION.md, section 11.
 -- Assumes nothing.
 use mathlib.Core.Path.{_≡_, ap}
 use Prim.Native.Nat.{ℕ, _+_, _*_, _<_, _≤_}

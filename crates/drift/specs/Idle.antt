@@ -1,4 +1,4 @@
--- At most 64 passes in a row draw no line (D "The scaled slice"): each adds at least 16 to a count that is never negative, and from 1,024 a pass draws.
+-- At most 64 passes in a row draw no line (D 8.23): each adds at least 16 to a count that is never negative, and from 1,024 a pass draws. D is docs/SPECIFICATION.md.
 -- Assumes nothing.
 use mathlib.Core.Path.{_≡_, refl, ap, _∙_}
 use mathlib.Core.Bool.{Bool, true, false}

@@ -1,4 +1,4 @@
--- The lines of a finished plan's rectangles add up to the clipped height divided by 4 (D "The scaled slice"): each pass draws of the lines left, and its fuel is enough.
+-- The lines of a finished plan's rectangles add up to the clipped height divided by 4 (D 8.23): each pass draws of the lines left, and its fuel is enough. D is docs/SPECIFICATION.md.
 -- Assumes nothing.
 use mathlib.Core.Path.{_≡_, refl, sym, ap, _∙_, subst}
 use mathlib.Core.Bool.{Bool, true, false, cond, _||_, true≢false}

@@ -1,4 +1,4 @@
--- Demand 3 of every request, and of every prefix of its plan.
+-- Demand 3 of every request, and of every prefix of its plan. D is docs/SPECIFICATION.md.
 -- Assumes nothing.
 use mathlib.Core.Path.{_≡_, refl, sym, ap, _∙_, subst}
 use mathlib.Core.Bool.{Bool, true, false, _||_}
@@ -274,6 +274,6 @@ whole-rows q a = all-wider (limit (driftOf q)) 30 (omega (arith, a .origin)) (dr
 pub demand3 : Demand3
 demand3 q a = by-near (driftOf q) 0 (stripsOf (driftOf q)) (planOf q .entries) (whole-rows q a)
 
--- and an origin between rows (Paper 13): 992 more behind
+-- and an origin between rows, which D 11.1 leaves out: 992 more behind
 pub between-rows : (q : Request) → q .opcode ≡ 9 → driftOf q .image-h % 4 ≡ 0 → driftOf q .origin ≤ℤ pos (driftOf q .start) → AllBy 1022 (driftOf q) 0 (stripsOf (driftOf q)) (planOf q .entries)
 between-rows q o r b = all-wider (limit (driftOf q)) 1022 (omega (arith, modulo-lt (driftOf q .origin) {m = 32} (omega arith))) (driftOf q) 0 (stripsOf (driftOf q)) (planOf q .entries) (all-near q o r b)

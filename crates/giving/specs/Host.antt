@@ -1,4 +1,4 @@
--- The bank and an end as words for hosts: a tile is seventeen numbers, in its fields' order, and a bank its eight tiles' numbers, one after another. D is document 01, 'Tiles and the bank'.
+-- The bank and an end as words for hosts: a tile is seventeen numbers, in its fields' order, and a bank its eight tiles' numbers, one after another. D is docs/SPECIFICATION.md, sections 5 and 10.
 -- Assumes nothing.
 use mathlib.Core.Path.{_≡_, refl, sym, ap, _∙_}
 use mathlib.Core.Bool.{Bool, true, false, cond}
@@ -116,7 +116,7 @@ nothing-written p e l buf ws =
     let uncut : cutAt (length buf) p ≡ p = rw (le-ltb (length buf / 11) (length (p .entries)) (omega arith)) in
     (ap (λ (q : Plan). planWords (q .entries) ++ drop (11 * length (q .entries)) buf) uncut ∙ ap (λ (es : List Entry). planWords es ++ drop (11 * length es) buf) e, ap (λ (q : Plan). wordsAfter ws (q .entries ++ q .left)) uncut ∙ rw (e, l))
 
--- ---- on the numbers of a bank, this is document 01's run
+-- ---- on the numbers of a bank, this is the run of D 10.4
 
 pub seventeen : (t : Tile) → length (tileNumbers t) ≡ 17
 unfolding tileNumbers
@@ -189,7 +189,7 @@ pub run-buffer : (p : Plan) (buf ws : List ℕ) (b : Bank) → runWords p buf ws
 unfolding runWords runOf
 run-buffer p buf ws b = refl
 
--- and over the numbers of a bank it leaves the numbers of the bank that document 01's run leaves
+-- and over the numbers of a bank it leaves the numbers of the bank that D's run leaves
 pub run-bank : (p : Plan) (buf : List ℕ) (b : Bank) → length (b .tiles) ≡ 8 → runWords p buf (bankNumbers b) .bank ≡ bankNumbers (runOf p buf b .bank)
 unfolding runWords runOf bankOf
 run-bank p buf b n = words-after (cutAt (length buf) p .entries ++ cutAt (length buf) p .left) b n

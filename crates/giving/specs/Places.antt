@@ -1,4 +1,4 @@
--- Where the entries stand that last set a tile, and the bank that they leave. D is document 01, 'Tiles and the bank'.
+-- Where the entries stand that last set a tile, and the bank that they leave. D is docs/SPECIFICATION.md, section 5.
 -- Assumes nothing.
 use mathlib.Core.Bool.{cond}
 use mathlib.Core.List.{List}

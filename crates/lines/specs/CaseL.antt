@@ -1,4 +1,4 @@
--- Case L of document 01: the text of its plan is the block that the document prints, byte by byte.
+-- Case L: the text of its plan is the block that D 12.5 prints, byte by byte. D is docs/SPECIFICATION.md.
 -- Assumes nothing.
 use mathlib.Core.Path.{_≡_, refl}
 use mathlib.Core.List.{List, [], _∷_}

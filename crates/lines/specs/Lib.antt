@@ -1,4 +1,4 @@
--- The text of a plan, that it can be read, what is written of it, and the text of document 01's case L.
+-- The text of a plan, that it can be read, what is written of it, and the text of case L (SPECIFICATION 12.5).
 pub mod Text
 pub mod Decimal
 pub mod Lines

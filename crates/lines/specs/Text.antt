@@ -1,4 +1,4 @@
--- The text of a plan, by document 01: D "Columns are right-justified decimals, negative ones with a minus sign: kind 2 wide, addresses and length 21, the rest 8".
+-- The text of a plan: D "Columns are right-justified decimals, negative ones with a minus sign: kind 2 wide, addresses and length 21, the rest 8". D is docs/SPECIFICATION.md, sections 9 and 12.
 -- Assumes nothing.
 use mathlib.Core.Bool.{Bool, cond, _&&_}
 use mathlib.Core.List.{List, [], _∷_, _++_}

@@ -1,4 +1,4 @@
--- The load request: words, rows, stride, start and length of a tile's load. D is document 01, 'The load request'; T is `rdp.rs` 392–415 `load_tile_typed`.
+-- The load request: words, rows, stride, start and length of a tile's load. D is docs/SPECIFICATION.md, section 6; T is `rdp.rs` 392–415 `load_tile_typed`.
 -- Assumes nothing.
 use mathlib.Core.Path.{_≡_}
 use mathlib.Core.Bool.{Bool, true, false}

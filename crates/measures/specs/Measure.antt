@@ -1,4 +1,4 @@
--- The three measures and the conversions between them, and between a measure and whole texels, rows and lines. D is document 01, R `rsp_s2dex2.rs`.
+-- The three measures (SPECIFICATION 1.6) and the conversions between them, and between a measure and whole texels, rows and lines. R is `rsp_s2dex2.rs`.
 -- Assumes nothing.
 use Prim.Native.Nat.{ℕ, _*_, _/_, _^_}
 use lib.IntN.{ℤ, pos, _*ℤ_}

@@ -1,4 +1,4 @@
--- The object's fields in its bytes: D "The object", M `mem.rs` 63–135 `ObjBg` and `decode_obj_bg`, and the S2DEX2 reference's uObjBg and uObjScaleBg.
+-- The object's fields in its bytes: D is docs/SPECIFICATION.md, mainly section 3; M is `mem.rs` 63–135, `ObjBg` and `decode_obj_bg`; and the S2DEX2 reference's uObjBg and uObjScaleBg.
 -- Assumes nothing.
 use mathlib.Core.Bool.{Bool, true, false, cond}
 use mathlib.Core.List.{List}
@@ -14,7 +14,7 @@ use Rattle.object.specs.declared.types.ObjBg.{ObjBg}
 use Rattle.object.specs.declared.decode.Decoded.{Decoded}
 use Rattle.object.specs.declared.decode.Decoded.the-variants as decoded
 
--- D "Decimal byte offsets", in the table's order
+-- D 3.1, D 3.2 and D 3.3, in the tables' order
 pub data Field : Type 0 where
   image-x : Field
   image-w : Field
@@ -81,7 +81,7 @@ layout p scale-w = place (24 + p) 2 unsigned
 layout p scale-h = place (26 + p) 2 unsigned
 layout p image-y-orig = place (28 + p) 4 signed32
 
--- D 2 "under 40 bytes for copy, 36 for scaled", for pointers of 4 bytes: the end of the last field
+-- D verdict 2 "under 40 bytes for copy, 36 for scaled", for pointers of 4 bytes: the end of the last field
 abbrev pub sizeOf : ℕ → (copy : Bool) → ℕ
 sizeOf p copy = cond copy (36 + p) (32 + p)
 

@@ -38,7 +38,7 @@ pub struct Scissor {
     pub lry: i32,
 }
 
-// How a plan ended; document 01 numbers them from 0 in this order.
+// How a plan ended; SPECIFICATION 4.1 numbers them from 0 in this order.
 pub enum Verdict {
     Finished,
     Opcode,

@@ -1,4 +1,4 @@
--- A record of 61 bytes with the oracle's answer and document 01's figures, and the test that the definitions give both.
+-- A record of 61 bytes with the oracle's answer and D's figures, and the test that the definitions give both. D is docs/SPECIFICATION.md, sections 12 and 13.
 -- Assumes nothing.
 use mathlib.Core.Bool.{Bool, true, false, _&&_, _||_}
 use mathlib.Core.List.{List, [], _∷_, _++_}
@@ -58,7 +58,7 @@ unfolding tileFrom
 tilesFrom zero ns = []
 tilesFrom (suc n) ns = tileFrom ns ∷ tilesFrom n (drop 17 ns)
 
--- what document 01 says of a case in words: D "Cases"
+-- what D 13.3 and D 13.4 say of a case
 pub data Figure : Type 0 where
   answers : (verdict : ℕ) → Figure
   entries : ℕ → Figure
@@ -80,7 +80,7 @@ pub record Ends : Type 0 where
 abbrev pub ends : ℕ → ℕ → ℕ → ℕ → Ends
 ends v e r w = record { verdict = v; entries = e; rectangles = r; words = w }
 
--- a record; how many bytes of the object and words of buffer the planner gets; then the oracle's end, buffer (sevens where nothing is written) and bank; and what document 01 says of it
+-- a record; how many bytes of the object and words of buffer the planner gets; then the oracle's end, buffer (sevens where nothing is written) and bank; and what D says of it
 pub record Given : Type 0 where
   pub bytes : ℕ
   pub count : ℕ
@@ -121,7 +121,7 @@ begun l k a [] = false
 begun l k a (b ∷ bs) =
     (eqb l (b .line) && (leZ (pos k) (b .strip) && (leZ (b .strip) (pos k) && (leZ (pos a) (b .distance) && leZ (b .distance) (pos a))))) || begun l k a bs
 
--- what document 01 says holds of a record's plan and end
+-- what D says holds of a record's plan and end
 unfoldable pub holds : Given → End → Figure → Bool
 unfolding requestOfRecord driftOf strips linesIn aheads apt allNear begun
 holds g e (answers n) = eqb (verdictNumber (e .verdict)) n

@@ -1,4 +1,4 @@
--- The copy plan: R 414–556 `bg_copy`, D "The copy strip".
+-- The copy plan: R 414–556 `bg_copy`; D is docs/SPECIFICATION.md, section 7.
 -- After the test for an empty frame nothing here is negative, and every difference of naturals is of a number and one that is no greater.
 -- Assumes nothing.
 use mathlib.Core.Bool.{Bool, true, false, cond, _||_}
@@ -96,7 +96,7 @@ stripEntries c y sy strip-height x s =
     (Rect 0 (quarters (c .left) + ofTexels x) (quarters (c .top) + ofTexels y) (quarters (c .left) + ofTexels (x + s .«strip_width» - 1)) (quarters (c .top) + ofTexels (y + strip-height - 1))
     (i16 (rowsHigh (cond (c .flip) (negℤ (pos (s .«load_width»))) (pos (s .offset))) .0)) (pos 0) (pos 0x1000) (pos 0x400) sy)
 
--- R 490–493: D 7 "a copy strip's line × height exceeds capacity"
+-- R 490–493: D verdict 7 "a copy strip's line × height exceeds capacity"
 unfoldable pub strip : Copy → (y sy strip-height x : ℕ) → Strip → Out ℕ
 strip c y sy strip-height x s =
     elim (ltb (c .capacity) (s .line * strip-height)) [

@@ -1,4 +1,4 @@
--- Demand 3: how far each line's sampled position is from the exact one. Only the statement, and a test that computes it.
+-- Demand 3: how far each line's sampled position is from the exact one. Only the statement, and a test that computes it. D is docs/SPECIFICATION.md, section 11.
 -- Everything here is from the request; the plan's rectangles are only read.
 -- Assumes nothing.
 use mathlib.Core.Path.{_≡_}
@@ -80,7 +80,7 @@ sampled d row ult j = pos (1024 * row) +ℤ pos 32 *ℤ ult +ℤ pos (d .h * j)
 abbrev pub exact : Drift → (earlier j : ℕ) → ℤ
 exact d earlier j = pos (32 * (d .start + 32 * d .carry) + d .h * (j + earlier))
 
--- the whole images that strip k lies below the origin's: the fixed m of "for some whole m"
+-- the whole images that strip k lies below the origin's: the m of D 11.7
 abbrev pub wholes : Drift → (k : ℤ) → ℤ
 wholes d k = floorDiv (pos (d .image-rows) *ℤ k +ℤ wholeRows (d .origin) +ℤ pos (d .carry) +ℤ cond (leZ k (d .slice)) (d .first-rows) (pos 0)) (d .source-rows)
 

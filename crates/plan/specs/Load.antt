@@ -1,4 +1,4 @@
--- Loads and address sums as parts of a plan.
+-- Loads and address sums as parts of a plan. D is docs/SPECIFICATION.md.
 -- Assumes nothing.
 use mathlib.Core.Bool.{true, false}
 use mathlib.Core.List.{[], _∷_}
@@ -25,7 +25,7 @@ unfoldable pub loadTile : (siz width address index uls ult lrs lrt : ℕ) → Ou
 unfolding loadOut
 loadTile siz width address i uls ult lrs lrt = loadOut (requestOf siz width address uls ult lrs lrt) i uls ult lrs lrt
 
--- R 101–115 `source_address`, D 9 "an address sum leaves 0..2^64 − 1"
+-- R 101–115 `source_address`, D verdict 9 "an address sum leaves 0..2^64 − 1"
 unfoldable pub sourceAddress : ℕ → ℤ → Out ℕ
 sourceAddress address offset =
     let sum = pos address +ℤ offset in

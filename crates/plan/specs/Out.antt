@@ -1,4 +1,4 @@
--- The entries of a plan, and plans as they are made: entries, then a value to go on with or a verdict to stop with.
+-- The entries of a plan, and plans as they are made: entries, then a value to go on with or a verdict to stop with. D is docs/SPECIFICATION.md.
 -- Assumes nothing.
 use mathlib.Core.List.{List, [], _∷_, _++_}
 use Rattle.plan.specs.declared.types.Entry.{Entry}

@@ -4,7 +4,7 @@ use mathlib.Core.List.{List}
 use Prim.Native.Nat.{ℕ}
 use Rattle.object.specs.declared.types.Scissor.{Scissor}
 
--- D "The domain": the object's bytes, the opcode, the scissor, the render mode, the resolved image address
+-- docs/SPECIFICATION.md, section 2: the object's bytes, the opcode, the scissor, the render mode, the resolved image address
 pub record Request : Type 0 where
   pub bytes : List ℕ
   pub opcode : ℕ

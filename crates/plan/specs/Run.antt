@@ -1,4 +1,4 @@
--- Folds over a plan's entries: the bank, the counts, the words; and a whole run into a buffer.
+-- Folds over a plan's entries: the bank, the counts, the words; and a whole run into a buffer. D is docs/SPECIFICATION.md.
 -- Assumes nothing.
 use mathlib.Core.Bool.{cond}
 use mathlib.Core.List.{List, [], _∷_, _++_}
@@ -72,7 +72,7 @@ planWords (e ∷ es) = entryWords e ++ planWords es
 unfoldable pub endOf : Plan → End
 endOf p = record { verdict = p .verdict; entries = length (p .entries); rectangles = rectangles (p .entries); words = tileWords (p .entries) }
 
--- D 10: the plan cut where under eleven words of a buffer of n are left and another entry comes; a refusal of the next entry is given though the buffer is full
+-- D verdict 10: the plan cut where under eleven words of a buffer of n are left and another entry comes; a refusal of the next entry is given though the buffer is full
 unfoldable pub cutAt : ℕ → Plan → Plan
 cutAt n p = cond (ltb (n / 11) (length (p .entries))) (record { entries = take (n / 11) (p .entries); left = []; verdict = Full }) p
 

@@ -1,4 +1,4 @@
--- The scaled plan: R 235–412 `bg_1cyc` over R 162–233 `load_1cyc` and R 118–159 `load_1cyc_tile`; D "The scaled slice".
+-- The scaled plan: R 235–412 `bg_1cyc` over R 162–233 `load_1cyc` and R 118–159 `load_1cyc_tile`; D is docs/SPECIFICATION.md, section 8.
 -- What can be negative is a ℤ. A natural difference stands for max(0, ·) only where the Rust tests or cuts the number at 0.
 -- Assumes nothing.
 use mathlib.Core.Bool.{Bool, true, false, cond, _||_}
@@ -111,7 +111,7 @@ scaledOf bg mode address c i =
       s = inThirtySeconds (cond (c .flip) (negℤ (pos (s + image-width))) (pos s));
     }
 
--- R 294, D 6 "image_h under 4, R at most 0, or stride 0" (`frame_rows <= 0` needs R at most 0)
+-- R 294, D verdict 6 "image_h under 4, R at most 0, or `stride` 0" (`frame_rows <= 0` needs R at most 0)
 abbrev pub slicesBad : Scaled → Bool
 slicesBad z = eqb (z .«source_rows») 0 || (eqb (z .«image_rows») 0 || eqb (z .stride) 0)
 
@@ -159,7 +159,7 @@ loadRows z pointer rows width = loadTile (sizeOf z) (fieldOf z) pointer 7 0 0 (l
 unfoldable pub loadPart : Scaled → (pointer : ℕ) → (rows width : ℤ) → Out (Unit {0})
 loadPart z pointer rows width = emit (Image 0 (sizeOf z) (fieldOf z) pointer) >> loadRows z pointer rows width
 
--- R 118–159 `load_1cyc_tile`; D 8 "a scaled load's rows or width at most 0, or destination negative"
+-- R 118–159 `load_1cyc_tile`; D verdict 8 "a scaled load's rows or width at most 0, or destination negative"
 unfoldable pub load1cycTile : Scaled → (pointer : ℕ) → (rows destination width : ℤ) → (set-tile : Bool) → Out (Unit {0})
 load1cycTile z pointer rows destination width set-tile =
     elim (leZ rows (pos 0) || (leZ width (pos 0) || ltZ destination (pos 0))) [

@@ -1,4 +1,4 @@
--- What is claimed of steps: n steps from a fresh planner answer the plan's first n entries and then its end for ever, and the bank is the fold over the entries given.
+-- What is claimed of steps: n steps from a fresh planner answer the plan's first n entries and then its end for ever, and the bank is the fold over the entries given. D is docs/SPECIFICATION.md.
 -- `Gives` is what a planner's definition has to show, once for each step; `steps-give` is the claim from it, for any planner.
 -- Assumes nothing.
 use mathlib.Core.Path.{_≡_, refl, ap, _∙_}
@@ -41,7 +41,7 @@ bankTo zero es left b = b
 bankTo (suc n) [] left b = bankTo n [] [] (bankAfter b left)
 bankTo (suc n) (x ∷ es) left b = bankTo n es left (bankStep b x)
 
--- D demand 2, as a claim about a planner's definition
+-- demand 2 of docs/CLAIMS.md, as a claim about a planner's definition
 pub record StepsGive {P : Type 0} (fresh : Request → P) (stepOf : P → Bank → Stepped P) : Type 0 where
   pub answered : (q : Request) (b : Bank) (n : ℕ) → answersOf stepOf n (fresh q) b ≡ answers n (planOf q .entries) (endOf (planOf q))
   pub banked : (q : Request) (b : Bank) (n : ℕ) → bankSteps stepOf n (fresh q) b ≡ bankTo n (planOf q .entries) (planOf q .left) b

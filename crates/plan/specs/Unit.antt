@@ -1,4 +1,4 @@
--- Document 01's cases L, A, B, C, D, E, G, H, I, J, in this order, as a unit: from the 61 bytes to the whole plan, the bank, and the figures of document 01. Written by tools/make_cases.py from the oracle's output.
+-- The worked cases L, A, B, C, D, E, G, H, I, J, in this order, as a unit: from the 61 bytes to the whole plan, the bank, and the figures of docs/SPECIFICATION.md, section 13, which the quotes call D. Written by tools/make_cases.py from the oracle's output.
 -- Assumes nothing.
 use mathlib.Core.List.{List, [], _∷_}
 use Prim.Native.Nat.{ℕ}

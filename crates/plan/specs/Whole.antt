@@ -1,4 +1,4 @@
--- The plan of a request, with the verdicts in document 01's order.
+-- The plan of a request, with the verdicts in the order of D 4.6. D is docs/SPECIFICATION.md.
 -- Assumes nothing.
 use mathlib.Core.Bool.{true, false}
 use Prim.Native.Nat.{ℕ}

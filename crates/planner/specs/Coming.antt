@@ -146,7 +146,7 @@ StartsCopy bg scissor address r = (bytes : List ℕ) (opcode mode : ℕ) → Sta
 abbrev pub StartsScaled : ObjBg → Scissor → (mode address : ℕ) → Course → Type 0
 StartsScaled bg scissor mode address r = (bytes : List ℕ) (opcode : ℕ) → Starts (planOut (scaledOut bg (requestOf bytes opcode scissor mode address))) r
 
--- D "made fresh": the whole plan of the request is to come
+-- a planner made fresh: the whole plan of the request is to come
 pub record Fresh (bytes : List ℕ) (opcode : ℕ) (scissor : Scissor) (mode address : ℕ) (p : Planner) : Type 0 where
   pub coming : coming p ≡ comingOf (planOf (requestOf bytes opcode scissor mode address))
   pub counts : p .counts ≡ zeroCounts

@@ -1,4 +1,4 @@
--- A case: what its bytes ask for, or that they are too few.
+-- A case: what its bytes ask for, or that they are too few. D is docs/SPECIFICATION.md, section 12.
 -- Assumes nothing.
 use mathlib.Core.Path.{_≡_, refl, ap, _∙_}
 use mathlib.Core.Bool.{Bool, true, false, cond}

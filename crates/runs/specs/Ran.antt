@@ -1,4 +1,4 @@
--- A whole run: what it has written so far and what is still to come, until the end or a full buffer.
+-- A whole run: what it has written so far and what is still to come, until the end or a full buffer. D is docs/SPECIFICATION.md.
 -- Assumes nothing.
 use mathlib.Core.Path.{_≡_, refl, sym, ap, subst, _∙_}
 use mathlib.Core.Bool.{Bool, true, false, cond}
@@ -42,7 +42,7 @@ pub record RanIs (bytes : List ℕ) (opcode : ℕ) (scissor : Scissor) (mode add
   pub bank : ws′ ≡ runWords (planOf (requestOf bytes opcode scissor mode address)) buf ws .bank
   pub buffer : out ≡ runWords (planOf (requestOf bytes opcode scissor mode address)) buf ws .buffer
 
--- on the numbers of a bank, it is document 01's run
+-- on the numbers of a bank, it is the run of D 10.4
 pub ran-is : (bytes : List ℕ) (opcode : ℕ) (scissor : Scissor) (mode address : ℕ) (buf out ws′ : List ℕ) (r : End) (b : Bank) → length (b .tiles) ≡ 8 → RanIs bytes opcode scissor mode address buf (bankNumbers b) out ws′ r
     → (r ≡ runOf (planOf (requestOf bytes opcode scissor mode address)) buf b .end) × (ws′ ≡ bankNumbers (runOf (planOf (requestOf bytes opcode scissor mode address)) buf b .bank)) × (out ≡ runOf (planOf (requestOf bytes opcode scissor mode address)) buf b .buffer)
 ran-is bytes opcode scissor mode address buf out ws′ r b n h =

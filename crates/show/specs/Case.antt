@@ -1,4 +1,4 @@
--- A case, of any length: the plan that its text is of.
+-- A case, of any length: the plan that its text is of. D is docs/SPECIFICATION.md, section 12.
 -- Assumes nothing.
 use mathlib.Core.Path.{_≡_, ap}
 use mathlib.Core.Bool.{cond}

@@ -1,4 +1,4 @@
--- The pieces of a plan's text, joined: calls one after another until one says that it is done write the whole text, and any fewer a beginning of it.
+-- The pieces of a plan's text, joined: calls one after another until one says that it is done write the whole text, and any fewer a beginning of it. D is docs/SPECIFICATION.md, section 12.
 -- Assumes nothing.
 use mathlib.Core.Path.{_≡_, refl, sym, ap, _∙_}
 use mathlib.Core.Bool.{Bool, true, false, cond}

@@ -1,4 +1,4 @@
--- The Rust's masks and casts as remainders and quotients.
+-- The Rust's masks and casts as remainders and quotients. D is docs/SPECIFICATION.md.
 -- Assumes nothing.
 use mathlib.Core.Bool.{cond}
 use Prim.Native.Nat.{ℕ, _^_}

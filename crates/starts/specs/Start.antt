@@ -1,4 +1,4 @@
--- Where a plan starts: each refusal, an empty frame, and the first place of each mode.
+-- Where a plan starts: each refusal, an empty frame, and the first place of each mode. D is docs/SPECIFICATION.md, section 4.
 -- Assumes nothing.
 use mathlib.Core.Path.{_≡_, refl, sym, ap, _∙_}
 use mathlib.Core.Bool.{true, false}

@@ -1,4 +1,4 @@
--- One strip of a copy plan: the parts of its columns, and its bounds.
+-- One strip of a copy plan: the parts of its columns, and its bounds. D is docs/SPECIFICATION.md, section 7.
 -- Assumes nothing.
 use mathlib.Core.Path.{_≡_, refl}
 use mathlib.Core.Bool.{Bool, true, false, cond}

@@ -1,4 +1,4 @@
--- What callers may count on of the definitions, which stay shut to them.
+-- What callers may count on of the definitions, which stay shut to them. D is docs/SPECIFICATION.md, section 5.
 -- Assumes nothing.
 use mathlib.Core.Path.{_≡_, ap, _∙_}
 use mathlib.Core.Logic.{_≢_}

@@ -1,4 +1,4 @@
--- What the exported functions leave to the host, over document 01's plan of the request that its words make.
+-- What the exported functions leave to the host, over the plan of the request that its words make: docs/SPECIFICATION.md, section 2.
 -- Assumes nothing.
 use mathlib.Core.Bool.{cond, _&&_}
 use mathlib.Core.List.{List}

@@ -1,4 +1,4 @@
--- What `hostRun` means for hosts: document 01's run on the words of a bank, and nothing changed where nothing is written.
+-- What `hostRun` means for hosts: the run of D 10.4 on the words of a bank, and nothing changed where nothing is written. D is docs/SPECIFICATION.md.
 -- Assumes nothing.
 use mathlib.Core.Path.{_≡_, refl}
 use mathlib.Core.Bool.{Bool, true, false, cond, _&&_}
@@ -15,7 +15,7 @@ use Rattle.giving.specs.Host.{runWords, bankNumbers, endNumbers, run-end, run-b
 use Rattle.request.specs.Host.{hostRequest}
 use Rattle.visorlongan.specs.Host.{left, ranLeft, hostRun}
 
--- on the numbers of a bank, that is document 01's run: all eight tiles, the whole buffer, the end
+-- on the numbers of a bank, that is D's run: all eight tiles, the whole buffer, the end
 pub host-bank : (object request plan end : List ℕ) (b : Bank) → length (b .tiles) ≡ 8 → hostRun object request (bankNumbers b) plan end .answer ≡ 0
     → hostRun object request (bankNumbers b) plan end ≡ left 0 (bankNumbers (runOf (planOf (hostRequest object request)) plan b .bank)) (runOf (planOf (hostRequest object request)) plan b .buffer) (endNumbers (runOf (planOf (hostRequest object request)) plan b .end))
 unfolding hostRun

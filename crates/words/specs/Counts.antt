@@ -1,4 +1,4 @@
--- The counts that go with a plan's entries, one entry after another, and that they end as the plan's end says. D is document 01, 'The plan entry'.
+-- The counts that go with a plan's entries, one entry after another, and that they end as the plan's end says. D is docs/SPECIFICATION.md, section 10.
 -- Assumes nothing.
 use mathlib.Core.Path.{_≡_, refl, _∙_}
 use mathlib.Core.Bool.{Bool, true, false, cond}
