@@ -67,7 +67,6 @@ static void print_rect(const uint64_t *e) {
            (int64_t)e[VISOR_RECT_ULT], (int64_t)e[VISOR_RECT_DSDX], (int64_t)e[VISOR_RECT_DTDY], e[VISOR_RECT_ROW]);
 }
 
-/* Where a renderer would act: `bank` holds the tiles as they are for this entry. */
 static void print_entry(const uint64_t *e) {
     printf("%2" PRIu64, e[0]);
     switch (e[0]) {
@@ -92,7 +91,8 @@ static void print_entry(const uint64_t *e) {
     printf("\n");
 }
 
-/* Counts the plan, lends it as many words, and goes through its entries in order, each done to the bank before it is used. */
+/* Counts the plan, lends it as many words, and goes through its entries in order. Each is done to `bank` before it is used: a renderer would load and draw
+   there, with the tiles as they are in `bank`, and not with those that the whole plan leaves in `after`. */
 static int plan(const uint8_t *record) {
     uint64_t request[VISOR_REQUEST_WORDS], end[VISOR_END_WORDS];
     uint64_t after[VISOR_BANK_WORDS] = {0}, bank[VISOR_BANK_WORDS] = {0};

@@ -1,6 +1,6 @@
 //! The RDP's eight tile descriptors.
 
-use crate::entry::{Entry, ENTRY_WORDS};
+use crate::entry::Entry;
 use crate::ffi::{self, BANK_WORDS};
 
 /// A tile descriptor. Setting a tile keeps its four bounds, width and height; setting its bounds
@@ -111,13 +111,16 @@ impl Bank {
     /// A load sets its tile's bounds before it reads, so that the bank after a load is the one that
     /// the load itself is meant for.
     pub fn apply(&mut self, entry: &Entry) {
-        self.apply_words(&entry.to_words());
+        let mut words = self.words();
+        self.follow(&mut words, entry);
     }
 
-    pub(crate) fn apply_words(&mut self, entry: &[u64; ENTRY_WORDS]) {
-        let mut words = self.words();
-        if ffi::apply(entry, &mut words) {
-            *self = Bank::from_words(&words);
+    /// Does an entry to the bank's words, and takes over the tile that it sets.
+    pub(crate) fn follow(&mut self, words: &mut [u64; BANK_WORDS], entry: &Entry) {
+        let Some(index) = entry.sets() else { return };
+        if ffi::apply(&entry.to_words(), words) {
+            let first = index * TILE_WORDS;
+            self.tiles[index] = Tile::from_words(&words[first..first + TILE_WORDS]);
         }
     }
 

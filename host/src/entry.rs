@@ -348,6 +348,18 @@ impl Entry {
     }
 }
 
+impl Entry {
+    /// The tile that the entry names for the bank; an image and a rectangle set none.
+    pub(crate) fn sets(&self) -> Option<usize> {
+        match self {
+            Entry::Tile(tile) => Some(tile.index.into()),
+            Entry::Size(size) => Some(size.index.into()),
+            Entry::Load(load) => Some(load.index.into()),
+            Entry::Image(_) | Entry::Rect(_) => None,
+        }
+    }
+}
+
 /// A kind, its numbers, and zeros.
 fn spread(kind: u64, numbers: &[u64]) -> [u64; ENTRY_WORDS] {
     let mut words = [0; ENTRY_WORDS];

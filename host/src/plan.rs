@@ -2,7 +2,7 @@
 
 use crate::bank::Bank;
 use crate::entry::{Entry, ENTRY_WORDS};
-use crate::ffi;
+use crate::ffi::{self, BANK_WORDS};
 use crate::request::{Mode, Request};
 use crate::verdict::{End, Refusal};
 use core::fmt;
@@ -77,6 +77,7 @@ impl<'a> Plan<'a> {
     pub fn steps(&self, bank: Bank) -> Steps<'a> {
         Steps {
             entries: self.entries(),
+            words: bank.words(),
             bank,
         }
     }
@@ -158,6 +159,8 @@ impl FusedIterator for Entries<'_> {}
 #[derive(Clone, Debug)]
 pub struct Steps<'a> {
     entries: Entries<'a>,
+    /// The bank's words, beside it so that they are not made anew for each entry.
+    words: [u64; BANK_WORDS],
     bank: Bank,
 }
 
@@ -166,7 +169,7 @@ impl Iterator for Steps<'_> {
 
     fn next(&mut self) -> Option<(Entry, Bank)> {
         let entry = self.entries.next()?;
-        self.bank.apply(&entry);
+        self.bank.follow(&mut self.words, &entry);
         Some((entry, self.bank))
     }
 
