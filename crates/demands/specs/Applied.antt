@@ -18,7 +18,7 @@ use Rattle.plan.specs.Run.{entryWords, planWords, cutAt, endOf}
 use Rattle.tile.specs.Bank.{extent}
 use Rattle.words.specs.Eleven.{eleven}
 use Rattle.giving.specs.Host.{setIn, boundsIn, wordsStep, wordsAfter, after-append, runWords, endNumbers}
-use Rattle.settling.specs.Applied.{applied, appliedOf}
+use Rattle.applying.specs.Applied.{applied, appliedOf}
 use Rattle.request.specs.Host.{hostRequest}
 use Rattle.visorlongan.specs.Host.{left, ranLeft, hostRun, hostApply}
 use Rattle.demands.specs.Small.{Small, AllSmall}

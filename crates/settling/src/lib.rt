@@ -1,7 +1,7 @@
-// The bank in the words that a host lends: set by the last entry of each kind, or by one entry at a time.
-mod applied;
+// The bank in the words that a host lends, set by the last entry of each kind.
 mod bank;
 
-pub use applied::apply;
+pub use bank::bounds_at;
 pub use bank::set_words;
 pub use bank::settle;
+pub use bank::tile_at;

@@ -13,7 +13,7 @@ use Rattle.runs.specs.Ran.{RanIs}
 use Rattle.giving.specs.Host.{runWords, endNumbers}
 use Rattle.request.specs.declared.types.Request.{Request}
 use Rattle.request.specs.Host.{withBytes, hostRequest}
-use Rattle.settling.specs.Applied.{applied, appliedOf}
+use Rattle.applying.specs.Applied.{applied, appliedOf}
 use Rattle.visorlongan.specs.Host.{left, ranLeft, hostRun, counted, hostCount, hostApply}
 
 module _ (object request bank plan end : List ℕ) where

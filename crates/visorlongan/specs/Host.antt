@@ -2,13 +2,13 @@
 -- Assumes nothing.
 use mathlib.Core.Bool.{cond, _&&_}
 use mathlib.Core.List.{List}
-use Prim.Native.Nat.{ℕ, _+_, _*_}
+use Prim.Native.Nat.{ℕ}
 use lib.Dec.{eqb}
 use lib.ListN.{length}
 use Rattle.plan.specs.Whole.{planOf}
 use Rattle.plan.specs.Run.{endOf}
 use Rattle.giving.specs.Host.{RanWords, runWords, endNumbers}
-use Rattle.settling.specs.Applied.{Applied, applied, appliedOf}
+use Rattle.applying.specs.Applied.{Applied, applied, appliedOf}
 use Rattle.request.specs.Host.{hostRequest}
 
 -- the answer, and the words of bank, plan and end as the call leaves them
@@ -48,7 +48,3 @@ hostCount object request end =
 -- one entry done to a bank, or 1 and nothing changed where entry or bank has another number of words or the words are no entry's
 unfoldable pub hostApply : (entry bank : List ℕ) → Applied
 hostApply entry bank = cond (eqb (length entry) 11 && eqb (length bank) 136) (appliedOf entry bank) (applied 1 bank)
-
--- a version as a number that grows with it
-abbrev pub versionOf : (major minor patch : ℕ) → ℕ
-versionOf major minor patch = major * 65536 + minor * 256 + patch

@@ -8,14 +8,17 @@
 // The object and the plan may have any length. A call with another number of words in one of the others answers 1 and changes nothing.
 // A call that answers 0 has done all of its work: nothing is kept from one call to the next.
 ghost use mathlib.Core.Path.{_≡_};
-ghost use Rattle.visorlongan.specs.Host.{left, hostRun, counted, hostCount, hostApply, versionOf};
-ghost use Rattle.settling.specs.Applied.{applied};
+ghost use Rattle.visorlongan.specs.Host.{left, hostRun, counted, hostCount, hostApply};
+ghost use Rattle.applying.specs.Applied.{applied};
+ghost use Rattle.version.specs.Version.{versionOf};
 
-const MAJOR: u64 = 0;
+const REQUEST: usize = 7;
 
-const MINOR: u64 = 2;
+const BANK: usize = 136;
 
-const PATCH: u64 = 0;
+const ENTRY: usize = 11;
+
+const END: usize = 4;
 
 // A whole run: the entries go to `plan`, eleven words each, and what they set of the tiles goes to `bank`. All other words stay as they are.
 #[no_mangle]
@@ -28,13 +31,13 @@ pub extern "C" fn visor_run(
 ) -> u64
     ensures { λ r. ⌜ left r (now (bank .exit)) (now (plan .exit)) (now (end .exit)) ≡ hostRun (now (object .entry)) (now (request .entry)) (now (bank .entry)) (now (plan .entry)) (now (end .entry)) ⌝ }
 {
-    if request.len() != 7 {
+    if request.len() != REQUEST {
         return 1;
     }
-    if bank.len() != 136 {
+    if bank.len() != BANK {
         return 1;
     }
-    if end.len() != 4 {
+    if end.len() != END {
         return 1;
     }
     let q = request::from_words(request);
@@ -56,10 +59,10 @@ pub extern "C" fn visor_run(
 pub extern "C" fn visor_count(object: &[u8], request: &[u64], end: &mut [u64]) -> u64
     ensures { λ r. ⌜ counted r (now (end .exit)) ≡ hostCount (now (object .entry)) (now (request .entry)) (now (end .entry)) ⌝ }
 {
-    if request.len() != 7 {
+    if request.len() != REQUEST {
         return 1;
     }
-    if end.len() != 4 {
+    if end.len() != END {
         return 1;
     }
     let q = request::from_words(request);
@@ -73,13 +76,13 @@ pub extern "C" fn visor_count(object: &[u8], request: &[u64], end: &mut [u64]) -
 pub extern "C" fn visor_apply(entry: &[u64], bank: &mut [u64]) -> u64
     ensures { λ r. ⌜ applied r (now (bank .exit)) ≡ hostApply (now (entry .entry)) (now (bank .entry)) ⌝ }
 {
-    if entry.len() != 11 {
+    if entry.len() != ENTRY {
         return 1;
     }
-    if bank.len() != 136 {
+    if bank.len() != BANK {
         return 1;
     }
-    settling::apply(&mut *bank, entry)
+    applying::apply(&mut *bank, entry)
 }
 
 // The library's version, by which a host sees that its header and its archive belong together.
@@ -87,5 +90,5 @@ pub extern "C" fn visor_apply(entry: &[u64], bank: &mut [u64]) -> u64
 pub extern "C" fn visor_version() -> u64
     ensures { λ r. ⌜ r ≡ versionOf 0 2 0 ⌝ }
 {
-    MAJOR * 65536 + MINOR * 256 + PATCH
+    version::number()
 }

@@ -1,4 +1,4 @@
--- `visorlongan::visor_apply` meets its contract: two lengths are tested, and the rest is `settling::apply`'s promise. Assumes nothing.
+-- `visorlongan::visor_apply` meets its contract: two lengths are tested, and the rest is `applying::apply`'s promise. Assumes nothing.
 use Rattle.visorlongan.proofs.Left.{odd-entry, odd-bank-there, applies}
 use borrow.Author.Needs.{needs}
 use Rattle.visorlongan.proofs.visor_apply.Statement.{statement}

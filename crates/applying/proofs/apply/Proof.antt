@@ -1,9 +1,9 @@
--- `settling::applied::apply` meets its contract: each test decides one clause of the definition. Assumes nothing.
+-- `applying::apply` meets its contract: each test decides one clause of the definition. Assumes nothing.
 use mathlib.Core.Path.{sym, _∙_}
 use borrow.Author.Needs.{needs}
-use Rattle.settling.proofs.Clauses.{is-nothing, is-tile, is-bounds, is-none, bounds-in}
-use Rattle.settling.proofs.applied.apply.Statement.{statement}
-use Rattle.settling.proofs.applied.apply.Tie as tie
+use Rattle.applying.proofs.Clauses.{is-nothing, is-tile, is-bounds, is-none, bounds-in}
+use Rattle.applying.proofs.apply.Statement.{statement}
+use Rattle.applying.proofs.apply.Tie as tie
 
 sets-nothing-requires : tie.Need-sets-nothing-requires
 sets-nothing-requires c κs = search needs

@@ -1,9 +1,9 @@
 // An entry's eleven words done to a bank's words, as a run does them.
 ghost use mathlib.Core.Path.{_≡_};
 ghost use lib.ListN.{length};
-ghost use Rattle.settling.specs.Applied.{setsNothing, setsTile, setsBounds, applied, appliedOf};
-use crate::bank::bounds_at;
-use crate::bank::tile_at;
+ghost use Rattle.applying.specs.Applied.{setsNothing, setsTile, setsBounds, applied, appliedOf};
+use settling::bounds_at;
+use settling::tile_at;
 
 // A texture image or a rectangle.
 fn sets_nothing(entry: &[u64]) -> bool

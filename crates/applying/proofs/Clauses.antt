@@ -8,7 +8,7 @@ use lib.Dec.{eqb, ltb}
 use lib.ListN.{length, getD}
 use borrow.Author.Tests.{ltb-true}
 use Rattle.giving.specs.Places.{BoundsIn, tileAt, boundsAt}
-use Rattle.settling.specs.Applied.{applied, setsNothing, setsTile, setsBounds, appliedOf}
+use Rattle.applying.specs.Applied.{applied, setsNothing, setsTile, setsBounds, appliedOf}
 
 both : (a b : Bool) → a && b ≡ true → (a ≡ true) × (b ≡ true)
 both true b h = (refl, h)

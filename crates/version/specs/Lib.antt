@@ -1,0 +1,2 @@
+-- A version as a number.
+pub mod Version
