@@ -10,10 +10,6 @@ use borrow.Author.Tests.{ltb-true}
 use Rattle.giving.specs.Places.{BoundsIn, tileAt, boundsAt}
 use Rattle.applying.specs.Applied.{applied, setsNothing, setsTile, setsBounds, appliedOf}
 
-both : (a b : Bool) → a && b ≡ true → (a ≡ true) × (b ≡ true)
-both true b h = (refl, h)
-both false b h = absurd (true≢false (sym h))
-
 module _ (e ws : List ℕ) where
   pub is-nothing : setsNothing e ≡ true → applied 0 ws ≡ appliedOf e ws
   unfolding appliedOf
@@ -31,11 +27,14 @@ module _ (e ws : List ℕ) where
   unfolding appliedOf
   is-none n t b = rw (n, t, b)
 
+-- six tests that all hold: the last four of them
 last-four : (k i a b c d : Bool) → k && (i && (a && (b && (c && d)))) ≡ true → (a ≡ true) × ((b ≡ true) × ((c ≡ true) × (d ≡ true)))
-last-four k i a b c d h =
-    let rest = both i _ (both k _ h .1) .1 in
-    let after = both a _ rest .1 in
-    (both a _ rest .0, (both b _ after .0, both c d (both b _ after .1)))
+last-four true true true true true d h = (refl, (refl, (refl, h)))
+last-four true true true true false d h = absurd (true≢false (sym h))
+last-four true true true false c d h = absurd (true≢false (sym h))
+last-four true true false b c d h = absurd (true≢false (sym h))
+last-four true false a b c d h = absurd (true≢false (sym h))
+last-four false i a b c d h = absurd (true≢false (sym h))
 
 -- bounds that stand have 16 bits
 pub bounds-in : (e : List ℕ) → length e ≡ 11 → setsBounds e ≡ true → BoundsIn e 1
