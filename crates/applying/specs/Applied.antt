@@ -1,6 +1,5 @@
 -- What an entry of eleven words does to a bank's words, for hosts that follow a plan entry by entry. D is docs/SPECIFICATION.md, sections 5 and 9.
 -- Assumes nothing.
-use mathlib.Core.Path.{_≡_}
 use mathlib.Core.Bool.{Bool, cond, _&&_, _||_}
 use mathlib.Core.List.{List}
 use Prim.Native.Nat.{ℕ}
