@@ -63,7 +63,7 @@ fn axis_of(frame: Quarters, size: Quarters, low: i32, high: i32) -> Axis
 }
 
 // The texels in a word of texture memory: 16, 8, 4 or 2.
-fn texels_per_word(siz: u8) -> u64
+pub fn texels_per_word(siz: u8) -> u64
     requires { ⌜ siz ≤ 3 ⌝ }
     ensures { λ r. ⌜ r ≡ 16 / 2 ^ siz ⌝ }
 {

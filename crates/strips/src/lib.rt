@@ -4,6 +4,7 @@ mod strip;
 
 pub use frame::copy_empty;
 pub use frame::copy_of;
+pub use frame::texels_per_word;
 pub use strip::column_at;
 pub use strip::strip_from;
 pub use strip::strip_height;

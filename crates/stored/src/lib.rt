@@ -1,0 +1,10 @@
+// A planner as 39 words that a host keeps, and back.
+mod copied;
+mod numbers;
+mod passed;
+mod planner_words;
+mod types;
+
+pub use planner_words::load;
+pub use planner_words::stored;
+pub use types::Loaded;
