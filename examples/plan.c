@@ -1,8 +1,9 @@
 /* Plans a background from C and prints the plan as the program bgplan does, one line an entry, then the end.
 
        cc plan.c $(pkg-config --cflags --libs visorlongan) -o plan
-       ./plan            case L, a small copied background
-       ./plan RECORD     a file of 61 bytes: object 40, scissor 4 x 2, render mode 4, opcode 1, address 8, all big-endian
+       ./plan                   case L, a small copied background
+       ./plan RECORD            a file of 61 bytes: object 40, scissor 4 x 2, render mode 4, opcode 1, address 8, all big-endian
+       ./plan --step [RECORD]   the same lines, by a planner that is stepped
 
    Exit status: 0 planned, 1 refused (the verdict's sentence goes to standard error), 2 wrong use, 3 no memory. It compiles as C99 and as C++. */
 #include <visorlongan.h>
@@ -91,6 +92,15 @@ static void print_entry(const uint64_t *e) {
     printf("\n");
 }
 
+/* The four numbers of an end, and the exit status that they make. */
+static int print_end(const uint64_t *end) {
+    printf(" 9%8" PRIu64 "%8" PRIu64 "%8" PRIu64 "%8" PRIu64 "\n", end[VISOR_END_VERDICT], end[VISOR_END_ENTRIES],
+           end[VISOR_END_RECTANGLES], end[VISOR_END_TILE_WORDS]);
+    if (end[VISOR_END_VERDICT] == VISOR_VERDICT_FINISHED) return 0;
+    fprintf(stderr, "plan: %s\n", visor_verdict_text(end[VISOR_END_VERDICT]));
+    return 1;
+}
+
 /* Counts the plan, lends it as many words, and goes through its entries in order. Each is done to `bank` before it is used: a renderer would load and draw
    there, with the tiles as they are in `bank`, and not with those that the whole plan leaves in `after`. */
 static int plan(const uint8_t *record) {
@@ -111,10 +121,22 @@ static int plan(const uint8_t *record) {
         print_entry(e);
     }
     free(entries);
-    printf(" 9%8" PRIu64 "%8" PRIu64 "%8" PRIu64 "%8" PRIu64 "\n", end[VISOR_END_VERDICT], end[VISOR_END_ENTRIES],
-           end[VISOR_END_RECTANGLES], end[VISOR_END_TILE_WORDS]);
-    if (end[VISOR_END_VERDICT] != VISOR_VERDICT_FINISHED) fprintf(stderr, "plan: %s\n", visor_verdict_text(end[VISOR_END_VERDICT]));
-    return end[VISOR_END_VERDICT] == VISOR_VERDICT_FINISHED ? 0 : 1;
+    return print_end(end);
+}
+
+/* The plan entry by entry, with no memory for it. A renderer would load and draw after each step, with the tiles as they are in `bank`, and may leave the loop
+   whenever a frame's time is used up: `state` and `bank` are all that it needs to go on. */
+static int step(const uint8_t *record) {
+    uint64_t request[VISOR_REQUEST_WORDS], state[VISOR_STATE_WORDS], out[VISOR_ENTRY_WORDS];
+    uint64_t bank[VISOR_BANK_WORDS] = {0};
+    request_of(record, request);
+    visor_start(record, VISOR_COPY_BYTES, request, VISOR_REQUEST_WORDS, state, VISOR_STATE_WORDS);
+    while (visor_step(state, VISOR_STATE_WORDS, bank, VISOR_BANK_WORDS, out, VISOR_ENTRY_WORDS) == 0) {
+        if (out[0] == VISOR_KIND_END) return print_end(out + VISOR_STEP_END_VERDICT);
+        print_entry(out);
+    }
+    fprintf(stderr, "plan: the planner's words are damaged\n");
+    return 2;
 }
 
 static int read_record(const char *path, uint8_t *record) {
@@ -132,9 +154,11 @@ int main(int count, char **arguments) {
         return 2;
     }
     memcpy(record, CASE_L, RECORD_BYTES);
-    if (count > 2 || (count == 2 && !read_record(arguments[1], record))) {
-        fprintf(stderr, "usage: plan [RECORD], a file of %d bytes\n", RECORD_BYTES);
+    int stepping = count > 1 && strcmp(arguments[1], "--step") == 0;
+    int records = count - 1 - stepping;
+    if (records > 1 || (records == 1 && !read_record(arguments[count - 1], record))) {
+        fprintf(stderr, "usage: plan [--step] [RECORD], a file of %d bytes\n", RECORD_BYTES);
         return 2;
     }
-    return plan(record);
+    return stepping ? step(record) : plan(record);
 }

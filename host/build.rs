@@ -1,5 +1,5 @@
 //! Links the proved planner, libvisorlongan.a: from the folder that VISORLONGAN_LIB names, from
-//! lib/ inside the package, or from where `rt staticlib visorlongan` writes it in the repository.
+//! lib/ inside the package, or from where `tools/library` writes it in the repository.
 
 use std::env;
 use std::path::{Path, PathBuf};
@@ -45,13 +45,13 @@ fn folder(package: &Path) -> Result<PathBuf, String> {
             .filter(|folder| folder.join(ARCHIVE).is_file())
             .ok_or(missing);
     }
-    let places = [package.join("lib"), package.join("../target/staticlib")];
+    let places = [package.join("lib"), package.join("../target/library")];
     let found = places
         .into_iter()
         .find(|folder| folder.join(ARCHIVE).is_file());
     found.ok_or(format!(
         "no {ARCHIVE}: take the crate out of a release, which has it inside; or run \
-         `rt staticlib visorlongan` in the repository; or name its folder in VISORLONGAN_LIB"
+         `tools/library` in the repository; or name its folder in VISORLONGAN_LIB"
     ))
 }
 

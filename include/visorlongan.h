@@ -10,8 +10,8 @@
    aligned for their elements. The arrays that a call writes lie apart from each other and from those that it reads; nothing
    else touches them during the call. Any lengths and any values are fine: a call always ends, reads and writes inside the
    lengths that it is given, allocates nothing, and keeps nothing between calls, so threads may call at once.
-   visor_run, visor_count and visor_apply answer 0, or 1 where a length is not the one named below; then they have changed
-   nothing.
+   visor_run, visor_count, visor_apply, visor_start and visor_step answer 0, or 1 where a length is not the one named below;
+   then they have changed nothing.
 
    NUMBERS. A word is a uint64_t. A signed number is stored modulo 2^64: (int64_t)word gives it back. Units: a *quarter* is a
    quarter of a texel or of a pixel (10.2), a *thirty-second* is one of a texel (10.5), a *scale* has 1,024 as 1 (5.10). */
@@ -28,9 +28,9 @@ extern "C" {
 /* ---- The version: of this header, and of the archive that is linked. They belong together if VISOR_VERSION == visor_version(). */
 
 #define VISOR_VERSION_MAJOR 0
-#define VISOR_VERSION_MINOR 2
+#define VISOR_VERSION_MINOR 3
 #define VISOR_VERSION_PATCH 0
-#define VISOR_VERSION_TEXT "0.2.0"
+#define VISOR_VERSION_TEXT "0.3.0"
 #define VISOR_VERSION (VISOR_VERSION_MAJOR * 65536 + VISOR_VERSION_MINOR * 256 + VISOR_VERSION_PATCH)
 
 uint64_t visor_version(void);
@@ -64,7 +64,8 @@ enum visor_kind {
     VISOR_KIND_TILE = 2,  /* set a tile: all but its bounds, width and height, which stay; its shifts become 0 */
     VISOR_KIND_SIZE = 3,  /* set a tile's bounds, and the width and height that follow from them */
     VISOR_KIND_LOAD = 4,  /* set a tile's bounds as VISOR_KIND_SIZE does, then load it from the texture image */
-    VISOR_KIND_RECT = 5   /* draw a textured rectangle with the tiles as they stand after the entries before it */
+    VISOR_KIND_RECT = 5,  /* draw a textured rectangle with the tiles as they stand after the entries before it */
+    VISOR_KIND_END = 9    /* no entry: visor_step answers it where the plan has ended, and visor_run never stores it */
 };
 
 enum visor_image {
@@ -162,6 +163,14 @@ enum visor_end {
     VISOR_END_TILE_WORDS = 3  /* the greatest rows * line of one load, in words of 8 bytes (10.2) */
 };
 
+/* The same four where visor_step answers VISOR_KIND_END: in the same order, after the kind; the six words after them are 0. */
+enum visor_step_end {
+    VISOR_STEP_END_VERDICT = 1,
+    VISOR_STEP_END_ENTRIES = 2,
+    VISOR_STEP_END_RECTANGLES = 3,
+    VISOR_STEP_END_TILE_WORDS = 4
+};
+
 /* 1 to 6: nothing is written, neither plan nor bank. 7 to 10: the entries before the refusal stand. */
 enum visor_verdict {
     VISOR_VERDICT_FINISHED = 0,
@@ -209,6 +218,15 @@ static inline const char *visor_verdict_text(uint64_t verdict) {
     }
 }
 
+/* ---- A planner between two steps (10.8), in words of the host's: visor_start writes them, visor_step takes them on.
+
+   What the words say is the library's own, and belongs to one version of it (VISOR_VERSION). A host may copy, keep and restore
+   them: with the bank's words that is a snapshot, and the plan goes on from there. It may have as many planners as it likes and
+   step them in any order, a planner now in one thread and now in another. It changes none of the words, and keeps none for
+   another version. */
+
+#define VISOR_STATE_WORDS 39
+
 /* ---- The functions. */
 
 /* A whole run: plans the request. The entries stand in plan from its first word on, VISOR_ENTRY_WORDS each; end has the four
@@ -237,6 +255,28 @@ uint64_t visor_count(const uint8_t *object, size_t object_bytes, const uint64_t 
    index above 7, or a size or load with a bound above 65,535.
    Lengths: VISOR_ENTRY_WORDS, VISOR_BANK_WORDS. */
 uint64_t visor_apply(const uint64_t *entry, size_t entry_words, uint64_t *bank, size_t bank_words);
+
+/* A planner with the request's whole plan to come, in the words of state. Any object and any request are fine: one that is
+   refused ends at its first step. Neither is needed any more after the call.
+   Lengths: VISOR_REQUEST_WORDS, VISOR_STATE_WORDS; object may have any. */
+uint64_t visor_start(const uint8_t *object, size_t object_bytes, const uint64_t *request, size_t request_words, uint64_t *state,
+                     size_t state_words);
+
+/* One step of a planner: out has the next entry, as visor_run would store it, or the end, VISOR_KIND_END and its numbers
+   (visor_step_end); state has the planner with the rest to come. bank has what the step sets, and no other word of it changes:
+   what the entry sets, as visor_apply has it, so that a host acts on the entry with this bank; and at the end of a copy plan
+   refused by VISOR_VERDICT_ADDRESS the bounds of tile 7, which the refused load has set. After the end every further call
+   answers the same end and changes neither state nor bank. VISOR_VERDICT_FULL never comes: there is no buffer.
+
+   Answers 1, and changes nothing, also where the words of state are no planner's. Damaged words, or those of another version,
+   may happen to be some planner's: then that one is stepped.
+
+   STEP OR RUN. visor_run makes a whole plan at once, in some 6 to 9 ns an entry, and wants a buffer for it. visor_step takes
+   some 50 to 90 ns a call, however far the plan is, and wants VISOR_STATE_WORDS words and no buffer: for a progress bar, for an
+   inspector, for a cabinet that shares a frame's time. The share that is done is the entries so far of those that visor_count
+   says.
+   Lengths: VISOR_STATE_WORDS, VISOR_BANK_WORDS, VISOR_ENTRY_WORDS. */
+uint64_t visor_step(uint64_t *state, size_t state_words, uint64_t *bank, size_t bank_words, uint64_t *out, size_t out_words);
 
 #ifdef __cplusplus
 }

@@ -6,7 +6,8 @@
 //! The Rust is the published text over shims that only store each call's entry, built for release.
 //! Both write eleven words an entry into a buffer that has been written before. A round runs all
 //! records of a group through one and then through the other; the best round of each counts.
-//! A second table holds the proved count of a plan's end against the proved run.
+//! A second table holds the proved count of a plan's end against the proved run. A third has what a
+//! start and a step cost, and a fourth steps of the largest plan at three places of it.
 
 #![allow(dead_code, unused_imports, unexpected_cfgs)]
 
@@ -32,7 +33,7 @@ use generate::Mode;
 use hle::rsp_s2dex2::{bg_1cyc, bg_copy};
 use machine::{CaseMemory, Machine, Planner};
 use plan::Plan;
-use proved::{BANK_WORDS, END_WORDS, REQUEST_WORDS};
+use proved::{BANK_WORDS, END_WORDS, REQUEST_WORDS, STATE_WORDS, STEP_WORDS};
 use random::Random;
 use record::{Bank, Record, COPY, SCALED};
 use std::time::{Duration, Instant};
@@ -152,6 +153,38 @@ impl Proved {
     }
 }
 
+/// The first word of what a step gives at the end.
+const END: u64 = 9;
+
+/// The proved planner step by step, with the words that a host keeps between two steps.
+struct Stepper {
+    state: [u64; STATE_WORDS],
+    bank: [u64; BANK_WORDS],
+    out: [u64; STEP_WORDS],
+}
+
+impl Stepper {
+    fn start(&mut self, record: &Record) {
+        proved::start(&record.object, &request(record), &mut self.state);
+    }
+
+    fn step(&mut self) {
+        proved::step(&mut self.state, &mut self.bank, &mut self.out);
+    }
+
+    /// The entries of a record's plan: a start, a step for each of them and one for the end.
+    fn run(&mut self, record: &Record) -> usize {
+        self.start(record);
+        self.step();
+        let mut entries = 0;
+        while self.out[0] != END {
+            entries += 1;
+            self.step();
+        }
+        entries
+    }
+}
+
 fn timed(group: &Group, mut run: impl FnMut(&Record) -> usize) -> (Duration, usize) {
     let start = Instant::now();
     let mut entries = 0;
@@ -161,6 +194,12 @@ fn timed(group: &Group, mut run: impl FnMut(&Record) -> usize) -> (Duration, usi
         }
     }
     (start.elapsed(), entries)
+}
+
+/// The best time of a way through a group's records.
+fn best(group: &Group, rounds: usize, mut run: impl FnMut(&Record) -> usize) -> f64 {
+    let times = (0..rounds).map(|_| timed(group, &mut run).0);
+    times.min().unwrap_or(Duration::MAX).as_secs_f64()
 }
 
 /// Both must store the same words; the rectangles' image row is the proved code's alone.
@@ -267,6 +306,115 @@ fn print_counts(groups: &[Group], rounds: usize, proved: &mut Proved) {
     }
 }
 
+/// The steps must give the words that the run stores, and the end after them.
+fn assert_steps(group: &Group, proved: &mut Proved, stepper: &mut Stepper) {
+    for record in &group.records {
+        let count = proved.run(record);
+        stepper.start(record);
+        for words in proved.words.chunks_exact(11).take(count) {
+            stepper.step();
+            assert_eq!(stepper.out, words);
+        }
+        stepper.step();
+        assert_eq!((stepper.out[0], stepper.out[2]), (END, count as u64));
+    }
+}
+
+/// Nanoseconds for each of so many; nothing to show where there are none.
+fn each(seconds: f64, count: f64) -> String {
+    if count == 0.0 {
+        return "-".to_string();
+    }
+    format!("{:.1}", 1e9 * seconds / count)
+}
+
+/// Starts that a round has at least, so that looking at the clock does not count.
+const STARTS: usize = 1_000;
+
+/// The seconds of a start.
+fn start_time(group: &Group, rounds: usize, stepper: &mut Stepper) -> f64 {
+    let records = group.records.clone();
+    let times = group.times.max(STARTS / records.len());
+    let starts = (times * records.len()) as f64;
+    let name = group.name;
+    let again = Group {
+        name,
+        records,
+        times,
+    };
+    let time = best(&again, rounds, |record| {
+        stepper.start(record);
+        0
+    });
+    time / starts
+}
+
+/// Nanoseconds of a start and of a step, without its plan's start and with it, and of an entry of
+/// the run. The end is a step too.
+fn print_steps(groups: &[Group], rounds: usize, proved: &mut Proved, stepper: &mut Stepper) {
+    println!(
+        "\n{:<25}{:>9}{:>13}{:>13}{:>13}{:>13}",
+        "", "entries", "ns", "ns", "ns a step", "ns an entry"
+    );
+    println!(
+        "{:<25}{:>9}{:>13}{:>13}{:>13}{:>13}",
+        "", "a plan", "a start", "a step", "with start", "of the run"
+    );
+    for group in groups {
+        assert_steps(group, proved, stepper);
+        let start = start_time(group, rounds, stepper);
+        let step = |record: &Record| stepper.run(record);
+        let m = measured(group, rounds, step, |record| proved.run(record));
+        let steps = m.entries + m.plans;
+        println!(
+            "{:<25}{:>9.1}{:>13}{:>13}{:>13}{:>13}",
+            group.name,
+            m.entries / m.plans,
+            each(start, 1.0),
+            each(m.first - start * m.plans, steps),
+            each(m.first, steps),
+            each(m.second, m.entries)
+        );
+    }
+}
+
+/// Steps that are timed together, at one place of a plan.
+const STRETCH: usize = 1_000;
+
+/// The best time of the next steps, taken again and again: the planner's words are put back.
+fn stretch_time(rounds: usize, stepper: &mut Stepper) -> f64 {
+    let state = stepper.state;
+    let mut best = Duration::MAX;
+    for _ in 0..rounds {
+        let start = Instant::now();
+        (0..STRETCH).for_each(|_| stepper.step());
+        best = best.min(start.elapsed());
+        stepper.state = state;
+    }
+    best.as_secs_f64()
+}
+
+/// Nanoseconds a step of the largest plan at its start, in its middle and before its end, all
+/// reached by steps.
+fn print_places(rounds: usize, stepper: &mut Stepper) {
+    let record = edges::largest();
+    let entries = count(&record);
+    let (heading, from) = ("largest, 1,000 steps", "from");
+    println!("\n{heading:<25}{from:>9}{:>13}", "ns a step");
+    stepper.start(&record);
+    let mut at = 0;
+    for (name, from) in [
+        ("the first", 0),
+        ("in the middle", entries / 2),
+        ("the last before the end", entries - STRETCH),
+    ] {
+        (at..from).for_each(|_| stepper.step());
+        at = from;
+        let time = each(stretch_time(10 * rounds, stepper), STRETCH as f64);
+        println!("{name:<25}{from:>9}{time:>13}");
+    }
+}
+
 /// A group that stays below this in every try is no noise: some layouts of the planner are seven times slower.
 const LEAST_RATIO: f64 = 0.5;
 const TRIES: usize = 3;
@@ -312,4 +460,11 @@ fn main() {
     let rounds = argument.map_or(9, |n| n.parse().expect("rounds"));
     print_runs(&groups, rounds, &mut proved, &mut original);
     print_counts(&groups, rounds, &mut proved);
+    let mut stepper = Stepper {
+        state: [0; STATE_WORDS],
+        bank: [0; BANK_WORDS],
+        out: [0; STEP_WORDS],
+    };
+    print_steps(&groups, rounds, &mut proved, &mut stepper);
+    print_places(rounds, &mut stepper);
 }

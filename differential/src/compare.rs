@@ -7,7 +7,8 @@
 //! blocks of 1,000, each of one mode of the generator and from a seed of its own,
 //! so that the same records are compared whatever the number of threads. Each record has its own
 //! random bank and is run into a buffer with room for all, into one that is too short by 0 to 11
-//! words and, now and then, into one of any length and one of no words.
+//! words and, now and then, into one of any length and one of no words. Then it is stepped to its
+//! end and beyond, with the planner of the record before it stepped in between.
 
 #![allow(dead_code, unused_imports, unexpected_cfgs)]
 
@@ -28,6 +29,7 @@ mod random;
 mod record;
 mod run;
 mod scene;
+mod stepped;
 
 pub use diag::{DiagKind, Diagnostic, MemoryAccess};
 pub use hle::mem::{MemoryError, MemoryErrorKind};
@@ -46,6 +48,7 @@ use std::panic::{catch_unwind, AssertUnwindSafe};
 use std::sync::atomic::{AtomicBool, AtomicU64, Ordering};
 use std::sync::Mutex;
 use std::time::Instant;
+use stepped::Planned;
 
 const BLOCK: u64 = 1_000;
 const MODES: [(&str, Mode); 8] = [
@@ -70,6 +73,12 @@ struct Tally {
     verdicts: [[u64; 11]; 3],
     /// Verdicts of the counts of whole plans, by the same.
     counts: [[u64; 11]; 3],
+    /// Planners stepped to their ends, all their steps, those beyond the end, and the steps of
+    /// second planners.
+    planners: u64,
+    steps: u64,
+    beyond: u64,
+    second: u64,
 }
 
 fn mode(record: &Record) -> usize {
@@ -98,6 +107,10 @@ impl Tally {
         self.entries += other.entries;
         self.most = self.most.max(other.most);
         self.short_objects += other.short_objects;
+        self.planners += other.planners;
+        self.steps += other.steps;
+        self.beyond += other.beyond;
+        self.second += other.second;
         let mine = self.verdicts.iter_mut().chain(&mut self.counts);
         let theirs = other.verdicts.iter().chain(&other.counts);
         for (mine, theirs) in mine.zip(theirs) {
@@ -121,6 +134,11 @@ impl Tally {
             "{} records, {} of them with fewer than 40 bytes of object; {} runs, {} entries, \
              at most {} in a plan",
             self.records, self.short_objects, self.runs, self.entries, self.most
+        );
+        println!(
+            "{} planners stepped to their ends, {} steps, {} of them beyond the end; \
+             {} steps of second planners",
+            self.planners, self.steps, self.beyond, self.second
         );
     }
 }
@@ -162,34 +180,37 @@ fn unexpected(answer: &Answer) -> Option<String> {
     (rows > MOST_ROWS_BEFORE).then(|| format!("a strip starts {rows} rows before the image\n"))
 }
 
-/// Runs a case into each of its buffers; the first difference, as text.
-fn compare(case: &Case, buffers: &mut Buffers, tally: &mut Tally) -> Option<String> {
-    let asked = |capacity, sink| {
-        catch_unwind(AssertUnwindSafe(|| {
-            run(&case.record, &case.settings(capacity), sink)
-        }))
-        .ok()
-    };
-    let Some(whole) = asked(u64::MAX, Sink::Keep) else {
-        return Some("the original Rust panicked\n".to_string());
-    };
+/// The Rust's answer; nothing where it panics.
+fn asked(case: &Case, capacity: u64, sink: Sink) -> Option<Answer> {
+    let settings = case.settings(capacity);
+    catch_unwind(AssertUnwindSafe(|| run(&case.record, &settings, sink))).ok()
+}
+
+const PANICKED: &str = "the original Rust panicked\n";
+
+/// Counts a case, runs it into each of its buffers and steps it beside another planner: the Rust's
+/// whole plan, or the first difference, as text.
+fn compare(
+    case: &Case,
+    beside: &Planned,
+    buffers: &mut Buffers,
+    tally: &mut Tally,
+) -> Result<Answer, String> {
+    let whole = asked(case, u64::MAX, Sink::Keep).ok_or(PANICKED)?;
     if let Some(text) = unexpected(&whole) {
-        return Some(text);
+        return Err(text);
     }
     tally.records += 1;
     tally.short_objects += u64::from(case.object.len() < OBJECT_BYTES);
     let mut random = Random(case.draw);
     if let Some(text) = count_difference(case, &whole.end, random.next(), buffers) {
-        return Some(text);
+        return Err(text);
     }
     tally.count(&case.record, &whole.end);
     for room in rooms(whole.end.entries, &mut random) {
         let mut expected = None;
         if room < 11 * whole.end.entries as usize {
-            expected = asked(room as u64, Sink::Nothing);
-            if expected.is_none() {
-                return Some("the original Rust panicked\n".to_string());
-            }
+            expected = Some(asked(case, room as u64, Sink::Nothing).ok_or(PANICKED)?);
         }
         let expected = expected.as_ref().unwrap_or(&whole);
         tally.run(&case.record, &expected.end);
@@ -197,10 +218,11 @@ fn compare(case: &Case, buffers: &mut Buffers, tally: &mut Tally) -> Option<Stri
         let before = bank_words(case, mark);
         let status = run_proved(case, room, mark, &before, buffers);
         if let Some(text) = difference(&whole.plan.entries, expected, status, &before, buffers) {
-            return Some(format!("buffer of {room} words\n{text}"));
+            return Err(format!("buffer of {room} words\n{text}"));
         }
     }
-    None
+    stepped::stepped(case, &whole, beside, &mut random, buffers, tally)?;
+    Ok(whole)
 }
 
 /// The bits of a tile's field.
@@ -251,11 +273,16 @@ fn parts_of(tile: u64) -> Range<usize> {
     first + 6..first + 17
 }
 
+/// Whether the plan ends with a load that is refused after it has set tile 7's bounds.
+fn refused_load(answer: &Answer) -> bool {
+    answer.end.verdict == 9 && answer.plan.refused_load
+}
+
 /// Which words of the bank a run sets: those of the entries that stand, and tile 7's bounds where the
 /// load after them is refused.
 fn set_by(entries: &[entry::Entry], expected: &Answer) -> [bool; BANK_WORDS] {
     let mut set = [false; BANK_WORDS];
-    if expected.end.verdict == 9 && expected.plan.refused_load {
+    if refused_load(expected) {
         set[bounds_of(7)].fill(true);
     }
     for entry in entries {
@@ -306,11 +333,16 @@ fn applied_difference(
             return Some(format!("entry {n} applied: returned {status}\n"));
         }
     }
-    if expected.end.verdict == 9 && expected.plan.refused_load {
+    if refused_load(expected) {
         bank[bounds_of(7)].copy_from_slice(&given[bounds_of(7)]);
     }
     let word = bank.iter().zip(given).position(|(mine, run)| mine != run);
-    word.map(|n| format!("bank word {n}: {} by entries, {} by the run\n", bank[n], given[n]))
+    word.map(|n| {
+        format!(
+            "bank word {n}: {} by entries, {} by the run\n",
+            bank[n], given[n]
+        )
+    })
 }
 
 fn numbers(end: &End) -> [u64; END_WORDS] {
@@ -350,8 +382,9 @@ fn difference(
         .unwrap();
     }
     let count = expected.end.entries as usize;
+    let entries = &entries[..count];
     let mut words = buffers.plan.inside().chunks_exact(11);
-    for (n, entry) in entries[..count].iter().enumerate() {
+    for (n, entry) in entries.iter().enumerate() {
         let given = words.next().unwrap_or(&[]);
         if given != entry {
             writeln!(text, "entry {n}: Rust {entry:?}\n  proved {given:?}").unwrap();
@@ -359,8 +392,8 @@ fn difference(
         }
     }
     let given = buffers.bank.inside();
-    text.extend(bank_difference(&entries[..count], expected, before, given));
-    text.extend(applied_difference(&entries[..count], expected, before, given));
+    text.extend(bank_difference(entries, expected, before, given));
+    text.extend(applied_difference(entries, expected, before, given));
     if !buffers.plan.untouched_but(11 * count) {
         text.push_str(
             "words of the plan buffer beyond the last entry, or around it, are changed\n",
@@ -420,12 +453,13 @@ fn hex(bytes: &[u8]) -> String {
     bytes.iter().map(|b| format!("{b:02x}")).collect()
 }
 
-fn differs(case: &Case) -> bool {
-    compare(case, &mut Buffers::new(), &mut Tally::default()).is_some()
+fn compare_once(case: &Case, beside: &Planned) -> Result<Answer, String> {
+    compare(case, beside, &mut Buffers::new(), &mut Tally::default())
 }
 
 /// The case made simpler as long as some difference stays, so that few numbers are left to read.
-fn reduced(case: &Case) -> Case {
+fn reduced(case: &Case, beside: &Planned) -> Case {
+    let differs = |case: &Case| compare_once(case, beside).is_err();
     let mut least = case.clone();
     let whole = Case {
         object: least.record.object.to_vec(),
@@ -472,6 +506,18 @@ fn describe(case: &Case, text: &str) -> String {
     )
 }
 
+/// A difference with the record that shows it, and both again for the record made simpler. The
+/// second planner is that of the worked case if some difference stays.
+fn explain(case: &Case, beside: &Planned, text: &str) -> String {
+    let worked = Planned::worked();
+    let simple = compare_once(case, &worked).is_err();
+    let beside = if simple { &worked } else { beside };
+    let least = reduced(case, beside);
+    let again = compare_once(&least, beside).err().unwrap_or_default();
+    let (first, last) = (describe(case, text), describe(&least, &again));
+    format!("{first}\nreduced:\n{last}")
+}
+
 fn block_seed(seed: u64, block: u64) -> u64 {
     Random(seed ^ block.wrapping_mul(0xd6e8_feb8_6659_fd93)).next()
 }
@@ -481,17 +527,12 @@ fn compare_block(seed: u64, block: u64, count: u64, tally: &mut Tally) -> Option
     let mut random = Random(block_seed(seed, block));
     let mode = MODES[(block % MODES.len() as u64) as usize].1;
     let mut buffers = Buffers::new();
+    let mut beside = Planned::worked();
     for n in 0..count {
         let case = Case::random(&mut random, mode);
-        if let Some(text) = compare(&case, &mut buffers, tally) {
-            let least = reduced(&case);
-            let again = compare(&least, &mut buffers, &mut Tally::default()).unwrap_or_default();
-            let both = format!(
-                "{}\nreduced:\n{}",
-                describe(&case, &text),
-                describe(&least, &again)
-            );
-            return Some((block * BLOCK + n, both));
+        match compare(&case, &beside, &mut buffers, tally) {
+            Ok(answer) => beside = Planned { case, answer },
+            Err(text) => return Some((block * BLOCK + n, explain(&case, &beside, &text))),
         }
     }
     None
@@ -534,10 +575,14 @@ fn compare_fixed(tally: &mut Tally) -> Option<String> {
     let others = edges::all().into_iter().chain([edges::largest()]);
     let others = others.map(|record| Case::fixed(record, OBJECT_BYTES));
     let mut buffers = Buffers::new();
-    named.chain(others).find_map(|case| {
-        let text = compare(&case, &mut buffers, tally)?;
-        Some(describe(&case, &text))
-    })
+    let mut beside = Planned::worked();
+    for case in named.chain(others) {
+        match compare(&case, &beside, &mut buffers, tally) {
+            Ok(answer) => beside = Planned { case, answer },
+            Err(text) => return Some(describe(&case, &text)),
+        }
+    }
+    None
 }
 
 fn single(arguments: &[String]) -> Option<String> {
@@ -555,7 +600,7 @@ fn single(arguments: &[String]) -> Option<String> {
         bank_seed: arguments.get(2).map(|n| number(n)),
         ..Case::fixed(Record::from_bytes(&bytes), length.min(OBJECT_BYTES))
     };
-    let text = compare(&case, &mut Buffers::new(), &mut Tally::default());
+    let text = compare_once(&case, &Planned::worked()).err();
     text.map(|text| describe(&case, &text))
 }
 
@@ -588,7 +633,7 @@ fn main() {
     let records = number(&arguments[0]);
     let seed = arguments.get(1).map_or(1, |n| number(n));
     let threads = arguments.get(2).map_or(2, |n| number(n) as usize).max(1);
-    if let Some(text) = refused_lengths() {
+    if let Some(text) = refused_lengths().or_else(|| stepped::refused_calls().err()) {
         finish(Some(text));
     }
     let names: Vec<&str> = MODES.iter().map(|(name, _)| *name).collect();
@@ -599,8 +644,8 @@ fn main() {
         finish(Some(text));
     }
     println!(
-        "{} fixed records, {} runs, {} entries",
-        fixed.records, fixed.runs, fixed.entries
+        "{} fixed records, {} runs, {} entries, {} steps",
+        fixed.records, fixed.runs, fixed.entries, fixed.steps
     );
     let (tally, found) = compare_all(records, seed, threads);
     tally.print();

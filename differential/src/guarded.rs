@@ -30,6 +30,10 @@ impl Guarded {
         &self.words[GUARD..GUARD + self.length]
     }
 
+    pub fn inside_mut(&mut self) -> &mut [u64] {
+        &mut self.words[GUARD..GUARD + self.length]
+    }
+
     /// Whether all words but the first `written` inside are as they were.
     pub fn untouched_but(&self, written: usize) -> bool {
         let (before, rest) = self.words.split_at(GUARD);
@@ -40,10 +44,29 @@ impl Guarded {
     }
 }
 
+/// A planner's words, the bank that it steps on, and what a step gives.
+pub struct StepBuffers {
+    pub state: Guarded,
+    pub bank: Guarded,
+    pub out: Guarded,
+}
+
+impl StepBuffers {
+    pub fn new() -> Self {
+        StepBuffers {
+            state: Guarded::new(),
+            bank: Guarded::new(),
+            out: Guarded::new(),
+        }
+    }
+}
+
 pub struct Buffers {
     pub bank: Guarded,
     pub plan: Guarded,
     pub end: Guarded,
+    /// Of a planner and of a second one beside it.
+    pub steps: [StepBuffers; 2],
 }
 
 impl Buffers {
@@ -52,6 +75,7 @@ impl Buffers {
             bank: Guarded::new(),
             plan: Guarded::new(),
             end: Guarded::new(),
+            steps: [StepBuffers::new(), StepBuffers::new()],
         }
     }
 }

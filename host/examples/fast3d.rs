@@ -4,16 +4,23 @@
 //! interpreter's context and keeps only what the loop touches: a machine with texture memory and a
 //! frame buffer, which tests/pixels.rs holds to the image, pixel by pixel. Run it with
 //!
-//!     cargo run --offline --example fast3d [RECORD]
+//!     cargo run --offline --example fast3d -- [--step] [RECORD]
 //!
-//! where RECORD is a file of 61 bytes in bgplan's format; without one it draws case E.
+//! where RECORD is a file of 61 bytes in bgplan's format; without one it draws case E. With `--step`
+//! the plan is stepped: a frame draws some of its entries, and the next one goes on.
 
 #[path = "../tests/machine/mod.rs"]
 pub mod machine;
 
 use machine::Machine;
 use std::process::ExitCode;
-use visorlongan::{Buffer, Entry, Image, Record, Request, Scissor, Verdict, BG_1CYC, BG_COPY};
+use visorlongan::{
+    count, Buffer, Entry, Image, Planner, Record, Refusal, Request, Scissor, Verdict, BG_1CYC,
+    BG_COPY,
+};
+
+/// The entries that a frame has time for, where a plan is stepped.
+const BUDGET: u64 = 40;
 
 /// fast3d-rs's `DiagKind`, as far as backgrounds push it.
 #[derive(Debug)]
@@ -54,6 +61,10 @@ impl Ctx {
             Entry::Rect(rect) => self.rdp.draw(&rect),
         }
     }
+
+    fn diagnosed(&mut self, result: Result<(), Refusal>, opcode: u8) -> Result<(), ()> {
+        result.map_err(|refusal| self.diags.push(diagnostic(refusal.verdict(), opcode)))
+    }
 }
 
 /// Both background commands. `address` is the object's image pointer, resolved by the memory.
@@ -76,7 +87,32 @@ fn bg(opcode: u8, object: &[u8], scissor: Scissor, address: u64, cx: &mut Ctx) -
     cx.rdp.tiles = after;
     let result = plan.result();
     cx.plan = buffer;
-    result.map_err(|refusal| cx.diags.push(diagnostic(refusal.verdict(), opcode)))
+    cx.diagnosed(result, opcode)
+}
+
+/// A frame's part of a plan that is stepped: how many entries it has done, at most `budget`.
+pub(crate) fn bg_frame(planner: &mut Planner, budget: u64, cx: &mut Ctx) -> u64 {
+    // Other commands may have set tiles since the frame before.
+    planner.set_bank(&cx.rdp.tiles);
+    for done in 0..budget {
+        let next = planner.next();
+        cx.rdp.tiles = planner.bank();
+        let Some(entry) = next else { return done };
+        cx.entry(entry);
+    }
+    budget
+}
+
+/// Either background command, drawn over several frames with a line for each.
+fn bg_stepped(request: &Request, cx: &mut Ctx) -> Result<(), ()> {
+    let whole = count(request).entries;
+    let mut planner = Planner::new(request);
+    let mut done = 0;
+    while planner.end().is_none() {
+        done += bg_frame(&mut planner, BUDGET, cx);
+        println!("{done} of {whole} entries drawn");
+    }
+    cx.diagnosed(planner.result(), request.opcode)
 }
 
 /// What fast3d-rs pushes for a refusal.
@@ -106,11 +142,12 @@ pub(crate) fn bg_1cyc(
     bg(BG_1CYC, object, scissor, address, cx)
 }
 
-fn draw(record: &Record) -> Result<(), String> {
+fn draw(record: &Record, stepping: bool) -> Result<(), String> {
     let request = record.request();
     let mut cx = Ctx::new(1024, 1024);
     cx.obj_render_mode = request.render_mode;
     let drawn = match request.opcode {
+        BG_COPY | BG_1CYC if stepping => bg_stepped(&request, &mut cx),
         BG_COPY => bg_copy(request.object, request.scissor, request.address, &mut cx),
         BG_1CYC => bg_1cyc(request.object, request.scissor, request.address, &mut cx),
         opcode => return Err(format!("{opcode} is no background's opcode")),
@@ -128,11 +165,13 @@ fn draw(record: &Record) -> Result<(), String> {
 
 fn main() -> ExitCode {
     let sample = concat!(env!("CARGO_MANIFEST_DIR"), "/tests/cases/E.bin");
-    let path = std::env::args().nth(1).unwrap_or(sample.to_string());
+    let arguments = std::env::args().skip(1);
+    let (flags, paths): (Vec<_>, Vec<_>) = arguments.partition(|argument| argument == "--step");
+    let path = paths.first().cloned().unwrap_or(sample.to_string());
     let bytes = std::fs::read(&path).map_err(|error| error.to_string());
     let record =
         bytes.and_then(|bytes| Record::try_from(&bytes[..]).map_err(|error| error.to_string()));
-    match record.and_then(|record| draw(&record)) {
+    match record.and_then(|record| draw(&record, !flags.is_empty())) {
         Ok(()) => ExitCode::SUCCESS,
         Err(error) => {
             eprintln!("{path}: {error}");

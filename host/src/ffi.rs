@@ -2,7 +2,7 @@
 
 use crate::entry::ENTRY_WORDS;
 use crate::library;
-pub use crate::library::{version, BANK_WORDS, END_WORDS, REQUEST_WORDS};
+pub use crate::library::{version, BANK_WORDS, END_WORDS, REQUEST_WORDS, STATE_WORDS, STEP_WORDS};
 
 pub fn run(
     object: &[u8],
@@ -26,6 +26,23 @@ pub fn count(object: &[u8], request: &[u64; REQUEST_WORDS]) -> [u64; END_WORDS] 
 /// Whether the words are an entry's; where they are not, nothing changes.
 pub fn apply(entry: &[u64; ENTRY_WORDS], bank: &mut [u64; BANK_WORDS]) -> bool {
     library::apply(entry, bank) == 0
+}
+
+pub fn start(object: &[u8], request: &[u64; REQUEST_WORDS]) -> [u64; STATE_WORDS] {
+    let mut state = [0; STATE_WORDS];
+    let status = library::start(object, request, &mut state);
+    debug_assert_eq!(status, 0, "the library refused lengths that it defines");
+    state
+}
+
+/// The words of a step's answer; none where those of `state` are no planner's, and nothing changes.
+pub fn step(
+    state: &mut [u64; STATE_WORDS],
+    bank: &mut [u64; BANK_WORDS],
+) -> Option<[u64; STEP_WORDS]> {
+    let mut out = [0; STEP_WORDS];
+    let status = library::step(state, bank, &mut out);
+    (status == 0).then_some(out)
 }
 
 #[cfg(test)]
@@ -59,6 +76,54 @@ mod tests {
             let (entry, mut bank) = (vec![2; entry], vec![77; bank]);
             assert_eq!(library::apply(&entry, &mut bank), 1);
             assert!(bank.iter().all(|word| *word == 77));
+        }
+    }
+
+    #[test]
+    fn wrong_lengths_of_a_planner_are_refused_and_nothing_is_written() {
+        for (request, state) in [(6, 39), (8, 39), (7, 38), (7, 40), (0, 0)] {
+            let (request, mut state) = (vec![10; request], vec![77; state]);
+            assert_eq!(library::start(&[0; 40], &request, &mut state), 1);
+            assert!(state.iter().all(|word| *word == 77));
+        }
+        let planner = start(&[0; 40], &[10; REQUEST_WORDS]);
+        for (state, bank, out) in [
+            (38, 136, 11),
+            (40, 136, 11),
+            (39, 135, 11),
+            (39, 137, 11),
+            (39, 136, 10),
+            (39, 136, 12),
+            (39, 136, 0),
+            (0, 0, 0),
+        ] {
+            let mut words = planner.to_vec();
+            words.resize(state, 0);
+            let before = words.clone();
+            let (mut bank, mut out) = (vec![77; bank], vec![77; out]);
+            assert_eq!(library::step(&mut words, &mut bank, &mut out), 1);
+            assert_eq!(words, before);
+            assert!([bank, out].concat().iter().all(|word| *word == 77));
+        }
+    }
+
+    /// The first word of a planner's is below 18.
+    #[test]
+    fn words_that_are_no_planner_s_change_nothing() {
+        let first = |word| {
+            let mut state = start(&[0; 40], &[10; REQUEST_WORDS]);
+            state[0] = word;
+            state
+        };
+        for state in [[u64::MAX; STATE_WORDS], first(18), first(1 << 32)] {
+            let (mut after, mut bank) = (state, [77; BANK_WORDS]);
+            let mut out = [77; STEP_WORDS];
+            assert_eq!(step(&mut after, &mut bank), None);
+            assert_eq!(library::step(&mut after, &mut bank, &mut out), 1);
+            assert_eq!(
+                (after, bank, out),
+                (state, [77; BANK_WORDS], [77; STEP_WORDS])
+            );
         }
     }
 

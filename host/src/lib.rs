@@ -52,10 +52,39 @@
 //! the middle of a plan keeps the bank of the last entry that it has done: that is the machine's
 //! state there, and the rest of the plan can be done later from it.
 //!
+//! # Stepping
+//!
+//! [`run`] and [`Buffer`] make a whole plan at once, in some 6 to 9 ns an entry, and want memory for
+//! all of it. A [`Planner`] makes one entry at a time, in some 50 to 90 ns however far the plan is,
+//! and keeps the bank beside it; it wants no memory but its own. Run where the whole plan is wanted;
+//! step for a progress bar, for an inspector, for a cabinet that shares a frame's time.
+//!
+//! ```
+//! use visorlongan::{Entry, Planner, Request, Scissor};
+//!
+//! # let mut object = [0; 40];
+//! # for (at, field) in [(2, 64), (6, 64), (10, 8), (14, 8), (20, 0xfff4), (30, 8), (32, 8), (36, 1)] {
+//! #     object[at..at + 2].copy_from_slice(&u16::to_be_bytes(field));
+//! # }
+//! # object[23] = 2;
+//! let mut planner = Planner::new(&Request::copy(&object, Scissor::new(0, 0, 320, 240), 0x1000));
+//! let load = planner.find(|entry| matches!(entry, Entry::Load(_)));
+//! assert!(load.is_some());
+//!
+//! // Stopped at a load, with the tiles that it is meant for; from the snapshot the plan goes on.
+//! assert_eq!(planner.bank().tiles[7].line, 4);
+//! let snapshot = planner.clone();
+//! assert!(snapshot.eq(planner));
+//! ```
+//!
+//! A snapshot is a clone: 39 words of planner and the bank's 136. What the words say belongs to one
+//! version of the library, so that they are not for keeping in a file: a [`Planner`] does not hand
+//! them out.
+//!
 //! # Without an allocator
 //!
 //! The crate needs no `std`. [`Buffer`], which owns its memory, is behind the feature `alloc`, which
-//! is on by default; [`run`] plans into words that the caller lends.
+//! is on by default; [`run`] plans into words that the caller lends, and [`Planner`] into none.
 
 #![no_std]
 #![deny(missing_docs)]
@@ -76,6 +105,7 @@ mod library;
 mod measure;
 mod object;
 mod plan;
+mod planner;
 mod request;
 mod verdict;
 
@@ -87,6 +117,7 @@ pub use length::WrongLength;
 pub use measure::{Quarters, Scale, ThirtySeconds};
 pub use object::{Kind, Object};
 pub use plan::{count, run, Entries, Plan, Steps};
+pub use planner::Planner;
 pub use request::{Mode, Record, Request, Scissor, BG_1CYC, BG_COPY};
 pub use verdict::{End, NoVerdict, Refusal, Verdict};
 

@@ -50,8 +50,7 @@ impl<'a> Plan<'a> {
     pub(crate) fn new(request: &Request, words: &'a [u64], end: End) -> Plan<'a> {
         Plan {
             words: &words[..end.entries as usize * ENTRY_WORDS],
-            // Another opcode is refused, so that there is no entry to tell the mode of.
-            mode: Mode::of(request.opcode).unwrap_or(Mode::Copy),
+            mode: request.mode(),
             end,
         }
     }

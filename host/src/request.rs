@@ -106,6 +106,12 @@ impl<'a> Request<'a> {
         }
     }
 
+    /// The mode of the request's entries. Another opcode is refused, so that there is no entry to
+    /// tell the mode of.
+    pub(crate) fn mode(&self) -> Mode {
+        Mode::of(self.opcode).unwrap_or(Mode::Copy)
+    }
+
     pub(crate) fn words(&self) -> [u64; REQUEST_WORDS] {
         let edge = |edge: i32| i64::from(edge) as u64;
         [

@@ -5,62 +5,31 @@ mod random;
 
 use random::Random;
 use visorlongan::{
-    count, run, version, Bank, Buffer, Entry, Kind, Mode, Object, Pixels, Quarters, Record,
-    Refusal, Request, Scale, Scissor, ThirtySeconds, Tile, Verdict, WrongLength, ENTRY_WORDS,
+    count, run, version, Bank, Buffer, Entry, Kind, Mode, Object, Pixels, Plan, Planner, Quarters,
+    Record, Refusal, Request, Scale, ThirtySeconds, Tile, Verdict, WrongLength, ENTRY_WORDS,
 };
 
 const MODES: [Mode; 2] = [Mode::Copy, Mode::Scaled];
 
-/// Random bytes, of which some are an object that passes most of the checks.
-fn bytes(r: &mut Random) -> Vec<u8> {
-    let lengths = [0, 1, 2, 35, 36, 39, 40, 41, 60, 61, 62, 1_000];
-    let mut bytes = vec![0; lengths[r.next() as usize % lengths.len()]];
-    r.fill(&mut bytes);
-    if bytes.len() >= 36 && !r.once_in(4) {
-        let numbers = [
-            r.from(0, 4),
-            r.from(0, 3),
-            0,
-            r.from(0, 255),
-            0,
-            r.from(0, 1),
-        ];
-        bytes[20..22].copy_from_slice(&[255, 244]);
-        bytes[22..28].copy_from_slice(&numbers.map(|number| number as u8));
-        for at in [2, 6, 10, 14] {
-            bytes[at] &= 15;
-        }
-        bytes[4] = 0;
-        bytes[12] = 0;
+/// The first entries of a planner, or its whole plan where it has no more: tests/stepping.rs has the
+/// rest.
+fn some_steps(request: &Request, bank: Bank, plan: &Plan) {
+    let some = 30;
+    let mut planner = Planner::with_bank(request, &bank);
+    for (entry, tiles) in plan.steps(bank).take(some) {
+        assert_eq!((planner.end(), planner.result()), (None, Ok(())));
+        assert_eq!((planner.next(), planner.bank()), (Some(entry), tiles));
+        planner.set_bank(&tiles);
     }
-    if bytes.len() >= 40 && r.once_in(2) {
-        let tmem_h = r.from(4, 255) as u8;
-        bytes[30..40].copy_from_slice(&[0, tmem_h, 0, tmem_h, 0, 0, 0, 1, 0, 0]);
+    if plan.entries().len() < some {
+        assert_eq!((planner.next(), planner.next()), (None, None));
+        assert_eq!(planner.end(), Some(plan.end));
+        assert_eq!(planner.result(), plan.result());
     }
-    bytes
-}
-
-fn request<'a>(r: &mut Random, object: &'a [u8]) -> Request<'a> {
-    let wild = r.once_in(4);
-    let mut edge = |high| {
-        if wild {
-            r.next() as i32
-        } else {
-            r.from(0, high) as i32
-        }
-    };
-    let scissor = Scissor::new(edge(30), edge(30), edge(1_023), edge(1_023));
-    Request {
-        object,
-        opcode: if wild {
-            r.next() as u8
-        } else {
-            r.from(9, 10) as u8
-        },
-        scissor,
-        render_mode: r.next() as u32,
-        address: u64::MAX - (r.next() >> r.from(0, 63)),
-    }
+    let mut zeros = Planner::new(request);
+    assert_eq!(zeros.next(), plan.entries().next());
+    let rest = plan.entries().len().saturating_sub(1);
+    assert!(zeros.size_hint().0 <= rest && zeros.size_hint().1 >= Some(rest));
 }
 
 fn all_of_a_plan(request: &Request, bank: Bank, buffer: &mut Buffer) -> Verdict {
@@ -86,6 +55,7 @@ fn all_of_a_plan(request: &Request, bank: Bank, buffer: &mut Buffer) -> Verdict 
         plan.entries().rev().take(9).count() <= 9
             && (&plan).into_iter().len() == plan.entries().len()
     );
+    some_steps(request, bank, &plan);
     let (limited, end) = (plan.end.verdict == Verdict::Full, plan.end);
     assert!(limited || count(request) == end);
     end.verdict
@@ -97,8 +67,8 @@ fn requests_of_every_kind() {
     let mut met = [0; 11];
     let mut buffer = Buffer::with_limit(2_000);
     for _ in 0..60_000 {
-        let object = bytes(&mut r);
-        let request = request(&mut r, &object);
+        let object = r.object();
+        let request = r.request(&object);
         let mut bank = Bank::default();
         bank.tiles[r.next() as usize % 8].lrs = r.next() as u16;
         met[all_of_a_plan(&request, bank, &mut buffer).number() as usize] += 1;

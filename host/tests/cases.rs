@@ -1,65 +1,9 @@
 //! The specification's cases, held to the text that the original Rust gave (tests/cases).
-//!
-//! NAME.bin is the case's 61 bytes, NAME.txt its plan from a bank of zeros, NAME.bank the tiles
-//! after the plan from the tiles of initial-bank.txt; list.txt says how many of the object's bytes
-//! each case gets.
 
-use visorlongan::{
-    count, run, Bank, Buffer, Entry, Record, Request, Scissor, Verdict, ENTRY_WORDS,
-};
+mod records;
 
-fn folder() -> String {
-    format!("{}/tests/cases", env!("CARGO_MANIFEST_DIR"))
-}
-
-fn read(name: &str) -> Vec<u8> {
-    std::fs::read(format!("{}/{name}", folder())).unwrap_or_else(|e| panic!("{name}: {e}"))
-}
-
-fn text(name: &str) -> String {
-    String::from_utf8(read(name)).expect("text")
-}
-
-fn record(name: &str) -> Record {
-    Record::try_from(&read(&format!("{name}.bin"))[..]).expect("61 bytes")
-}
-
-/// The case's record, and how many of the object's bytes the planner gets.
-fn cases() -> Vec<(String, Record, usize)> {
-    let list = text("list.txt");
-    let case = |line: &str| {
-        let (name, count) = line.split_once(' ').expect("name and count");
-        (
-            name.to_string(),
-            record(name),
-            count.parse().expect("a count"),
-        )
-    };
-    list.lines().map(case).collect()
-}
-
-fn request(record: &Record, object_bytes: usize) -> Request<'_> {
-    let request = record.request();
-    Request {
-        object: &request.object[..object_bytes],
-        ..request
-    }
-}
-
-/// A bank from eight lines of an index and seventeen numbers.
-fn bank(text: &str) -> Bank {
-    let mut bank = Bank::default();
-    for (tile, line) in bank.tiles.iter_mut().zip(text.lines()) {
-        let numbers = line.split_whitespace().skip(2);
-        let n: Vec<u16> = numbers.map(|n| n.parse().expect("a number")).collect();
-        [tile.uls, tile.ult, tile.lrs, tile.lrt] = [n[0], n[1], n[2], n[3]];
-        [tile.width, tile.height, tile.line, tile.tmem] = [n[4], n[5], n[15], n[16]];
-        [tile.fmt, tile.siz, tile.palette] = [n[6] as u8, n[7] as u8, n[8] as u8];
-        [tile.cms, tile.cmt, tile.masks] = [n[9] as u8, n[10] as u8, n[11] as u8];
-        [tile.maskt, tile.shifts, tile.shiftt] = [n[12] as u8, n[13] as u8, n[14] as u8];
-    }
-    bank
-}
+use records::{bank, cases, largest, record, refused_load, request, text};
+use visorlongan::{count, run, Bank, Buffer, Entry, Request, Scissor, Verdict, ENTRY_WORDS};
 
 #[test]
 fn plans_are_the_rusts() {
@@ -114,19 +58,9 @@ fn steps_have_the_bank_of_each_entry() {
 /// A copy load that is refused by its address has set tile 7's bounds, which is no entry.
 #[test]
 fn a_refused_copy_load_has_set_its_size() {
-    let record = record("L");
-    let request = Request {
-        address: u64::MAX,
-        ..record.request()
-    };
-    let mut object = record.request().object.to_vec();
-    object[1] = 255;
-    let request = Request {
-        object: &object,
-        ..request
-    };
+    let record = refused_load();
     let (mut buffer, mut after) = (Buffer::new(), Bank::default());
-    let plan = buffer.plan(&request, &mut after);
+    let plan = buffer.plan(&record.request(), &mut after);
     assert_eq!((plan.end.verdict, plan.end.entries), (Verdict::Address, 4));
     let (entry, tiles) = plan.steps(Bank::default()).last().expect("four entries");
     assert!(matches!(entry, Entry::Size(_)));
@@ -243,21 +177,11 @@ fn bytes_beyond_the_object_are_not_read() {
     }
 }
 
-/// The longest plan's object: an image of one cell under a frame of 1,023 by 1,023 cells.
-fn largest() -> Vec<u8> {
-    let mut bytes = record("L").request().object.to_vec();
-    for (at, field) in [(2, 4), (10, 4), (6, 4092), (14, 4092), (30, 4), (32, 4)] {
-        bytes[at..at + 2].copy_from_slice(&u16::to_be_bytes(field));
-    }
-    bytes
-}
-
 #[test]
 fn the_largest_plan() {
-    let object = largest();
-    let request = Request::copy(&object, Scissor::new(0, 0, 1023, 1023), 4096);
+    let record = largest();
     let mut buffer = Buffer::new();
-    let plan = buffer.plan(&request, &mut Bank::default());
+    let plan = buffer.plan(&record.request(), &mut Bank::default());
     assert_eq!(plan.end.verdict, Verdict::Finished);
     assert_eq!(
         (plan.end.entries, plan.end.rectangles),
@@ -272,11 +196,10 @@ fn the_largest_plan() {
 /// A limit is kept, a plan that wants more is answered, and the bank is that of what fitted.
 #[test]
 fn buffers_with_a_limit() {
-    let object = largest();
-    let request = Request::copy(&object, Scissor::new(0, 0, 1023, 1023), 4096);
+    let long = largest();
     for limit in [0, 1, 5, 511, 512, 513, 100_000] {
         let (mut buffer, mut after) = (Buffer::with_limit(limit), Bank::default());
-        let plan = buffer.plan(&request, &mut after);
+        let plan = buffer.plan(&long.request(), &mut after);
         assert_eq!(
             (plan.end.verdict, plan.end.entries),
             (Verdict::Full, limit as u64)

@@ -18,9 +18,9 @@ use Rattle.checks.specs.Check.{verdictNumber}
 use Rattle.plan.specs.declared.types.Entry.{Entry}
 use Rattle.plan.specs.declared.types.Entry.the-variants as entry
 use Rattle.plan.specs.Request.{Request}
-use Rattle.plan.specs.Run.{rectangles, wordsFrom, entryWords, endOf}
+use Rattle.plan.specs.Run.{rectangles, wordsFrom, entryWords, endWords, endOf}
 use Rattle.plan.specs.Whole.{planOf}
-use Rattle.lines.specs.Text.{digitsOf, isNegative, magnitudeOf, widthsOf, endWidths, endWords}
+use Rattle.lines.specs.Text.{digitsOf, isNegative, magnitudeOf, widthsOf, endWidths}
 use Rattle.lines.specs.Decimal.{saidAfter, digits-say}
 use Rattle.demands.specs.Small.{Signed16, Small, AllSmall}
 use Rattle.demands.specs.SmallPlans.{Asked, plan-small}

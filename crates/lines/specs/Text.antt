@@ -5,12 +5,11 @@ use mathlib.Core.List.{List, [], _∷_, _++_}
 use Prim.Native.Nat.{ℕ, zero, suc, _+_, _-_, _/_, _%_, _^_}
 use lib.Dec.{ltb, leb}
 use lib.ListN.{length, replicate}
-use Rattle.checks.specs.Check.{verdictNumber}
 use Rattle.plan.specs.declared.types.Entry.{Entry}
 use Rattle.plan.specs.declared.types.Entry.the-variants as entry
 use Rattle.plan.specs.declared.types.End.{End}
 use Rattle.plan.specs.Out.{Plan}
-use Rattle.plan.specs.Run.{entryWords, endOf}
+use Rattle.plan.specs.Run.{entryWords, endWords, endOf}
 
 -- the bytes of a blank, a minus sign and a line end
 abbrev pub space : ℕ
@@ -68,9 +67,6 @@ entryText e = line (widthsOf e) (entryWords e)
 -- D "9 end, returned and not stored (verdict, entries, rectangles, tile words)"
 abbrev pub endWidths : List ℕ
 endWidths = 2 ∷ 8 ∷ 8 ∷ 8 ∷ 8 ∷ 0 ∷ 0 ∷ 0 ∷ 0 ∷ 0 ∷ 0 ∷ []
-
-abbrev pub endWords : End → List ℕ
-endWords e = 9 ∷ verdictNumber (e .verdict) ∷ e .entries ∷ e .rectangles ∷ e .words ∷ 0 ∷ 0 ∷ 0 ∷ 0 ∷ 0 ∷ 0 ∷ []
 
 unfoldable pub endText : End → List ℕ
 endText e = line endWidths (endWords e)

@@ -6,9 +6,9 @@ ghost use Rattle.lines.specs.Text.{line, widthsOf, entryText, endText};
 ghost use Rattle.lines.specs.Lines.{PutIs, totalOf};
 use crate::column::blank;
 use crate::column::put;
-use checks::number;
 use plan::End;
 use plan::Entry;
+use words::end_words;
 use words::entry_words;
 
 // By a call no proof is owed that an element of an array fits.
@@ -71,19 +71,10 @@ pub fn end_line(out: &mut [u8], at: usize, e: End) -> usize
     requires { ⌜ at + 128 ≤ length (now out) ⌝ }
     ensures { λ r. ⌜ PutIs (now (out .entry)) at (endText e) (now (out .exit)) r ⌝ }
 {
-    let v = e.verdict;
-    let words = [
-        9,
-        number(v),
-        e.entries,
-        e.rectangles,
-        e.words,
-        0,
-        0,
-        0,
-        0,
-        0,
-        0,
-    ];
-    row(&mut *out, at, [2, 8, 8, 8, 8, 0, 0, 0, 0, 0, 0], words)
+    row(
+        &mut *out,
+        at,
+        [2, 8, 8, 8, 8, 0, 0, 0, 0, 0, 0],
+        end_words(e),
+    )
 }

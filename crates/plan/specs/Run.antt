@@ -6,6 +6,7 @@ use Prim.Native.Nat.{ℕ, _+_, _*_, _/_, max}
 use lib.Dec.{ltb, eqb}
 use lib.ListN.{length, take, drop}
 use Rattle.signed.specs.Cast.{word}
+use Rattle.checks.specs.Check.{verdictNumber}
 use Rattle.plan.specs.declared.types.Entry.{Entry}
 use Rattle.plan.specs.Out.{Plan}
 use Rattle.tile.specs.declared.bank.Tile.{Tile}
@@ -68,6 +69,10 @@ entryWords (entry.Rect i ulx uly lrx lry uls ult dsdx dtdy row) = 5 ∷ i ∷ ul
 unfoldable pub planWords : List Entry → List ℕ
 planWords [] = []
 planWords (e ∷ es) = entryWords e ++ planWords es
+
+-- D "9 end, returned and not stored (verdict, entries, rectangles, tile words)": an end as what a step answers
+abbrev pub endWords : End → List ℕ
+endWords e = 9 ∷ verdictNumber (e .verdict) ∷ e .entries ∷ e .rectangles ∷ e .words ∷ 0 ∷ 0 ∷ 0 ∷ 0 ∷ 0 ∷ 0 ∷ []
 
 unfoldable pub endOf : Plan → End
 endOf p = record { verdict = p .verdict; entries = length (p .entries); rectangles = rectangles (p .entries); words = tileWords (p .entries) }

@@ -100,6 +100,7 @@ pub record StepGives (p : Planner) (r : Step) : Type 0 where
   pub ranges : givenIn (r .given)
   pub rest : coming (r .planner) ≡ nextOf (coming p .entries) (coming p .left) (coming p .end)
   pub counts : r .planner .counts ≡ countsNext (coming p .entries) (p .counts)
+  pub over : coming p .entries ≡ [] → r .planner .course ≡ course.Over (coming p .end .verdict)
   pub sound : Sound (r .planner)
 
 -- the same with a bank, which is as after it

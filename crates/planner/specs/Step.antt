@@ -61,6 +61,9 @@ module _ (w w′ : Course) (n : Counts) (e : Entry) (i : comingCourse w ≡ cons
   given-counts : countedOf n e ≡ countsNext (comingFrom (comingCourse w) n .entries) n
   given-counts = rw i
 
+  given-more : comingFrom (comingCourse w) n .entries ≡ [] → ⊥
+  given-more h = let k : e ∷ comingCourse w′ .entries ≡ [] = rw i at h in let z : _≡_ {A = ℕ} 0 1 = cc in omega arith
+
   pub step-given : EntryIn e → soundCourse w′ → suc (leftCourse w′) ≤ leftCourse w → Sound (plannerAt w n) → StepGives (plannerAt w n) (giveOf w′ n e)
   unfolding coming
   step-given a s l h =
@@ -72,6 +75,7 @@ module _ (w w′ : Course) (n : Counts) (e : Entry) (i : comingCourse w ≡ cons
         ranges = a;
         rest = given-rest;
         counts = given-counts;
+        over = λ h. absurd (given-more h);
         sound = record { course = s; counts = counted-countable n e (h .counts) (omega arith) (a .line); few = omega arith };
       }
 
@@ -101,6 +105,7 @@ module _ (w : Course) (n : Counts) (left : List Entry) (v : Verdict) (i : coming
         ranges = t;
         rest = stopped-rest;
         counts = stopped-counts;
+        over = λ h. ap (λ (q : Plan). course.Over (q .verdict)) (sym i);
         sound = record { course = tt; counts = h .counts; few = omega arith };
       }
 
@@ -109,6 +114,11 @@ step-stopped w n v i h = step-ended w n [] v i (given.End (endWith n v)) refl re
 
 pub step-refused : (w : Course) (n : Counts) (s : Entry) → comingCourse w ≡ ended (s ∷ []) verdict.Address → Narrow s → Sound (plannerAt w n) → StepGives (plannerAt w n) (refuseOf n s)
 step-refused w n s i t h = step-ended w n (s ∷ []) verdict.Address i (given.Refused s (endWith n verdict.Address)) refl refl t h
+
+-- where no entry is to come, the end has the counts so far
+pub counts-at-end : (p : Planner) → coming p .entries ≡ [] → coming p .end ≡ endWith (p .counts) (coming p .end .verdict)
+unfolding coming countedAll
+counts-at-end p none = ap (λ (es : List Entry). endWith (countedAll (p .counts) es) (comingCourse (p .course) .verdict)) none
 
 -- ---- copy
 

@@ -34,7 +34,7 @@ use Rattle.planner.specs.declared.types.Given.{Given}
 use Rattle.planner.specs.declared.types.Given.the-variants as given
 use Rattle.planner.specs.declared.types.Step.{Step}
 use Rattle.planner.specs.Coming.{coming, comingCourse, comingFrom, countsNext, answerIn, leftIn, Sound, StepGives, requestOf}
-use Rattle.planner.specs.Step.{gave-entry, gave-rest, gave-end}
+use Rattle.planner.specs.Step.{gave-entry, gave-rest, gave-end, counts-at-end}
 
 -- D "A whole run writes entries of eleven 64-bit words": the end, the whole buffer and the bank's words
 pub record RanIs (bytes : List ℕ) (opcode : ℕ) (scissor : Scissor) (mode address : ℕ) (buf ws out ws′ : List ℕ) (r : End) : Type 0 where
@@ -180,11 +180,6 @@ module _ (kept : Bool) (k : Coming) (buf out : List ℕ) (p : Planner) (n : Coun
         written = rw (o, l, q) (written-more kept buf out at ps gs e (g .written) room (rw a at (i .ranges)));
         sound = i .sound;
       }
-
--- where no entry is to come, the end has the counts so far
-counts-at-end : (p : Planner) → coming p .entries ≡ [] → coming p .end ≡ endWith (p .counts) (coming p .end .verdict)
-unfolding coming countedAll
-counts-at-end p none = ap (λ (es : List Entry). endWith (countedAll (p .counts) es) (comingCourse (p .course) .verdict)) none
 
 -- all entries are written
 module _ (plan : Plan) (buf ws out : List ℕ) (p : Planner) (n : Counts) (at : ℕ) (ps : Places) (g : Going true (comingOf plan) buf out p n at ps) where

@@ -1,7 +1,9 @@
 // One entry: its eleven words, and a bank after it.
 ghost use mathlib.Core.Path.{_≡_};
 ghost use Rattle.plan.specs.Sound.{Narrow};
-ghost use Rattle.plan.specs.Run.{descriptor, bankStep, entryWords};
+ghost use Rattle.plan.specs.Run.{descriptor, bankStep, entryWords, endWords};
+use checks::number;
+use plan::End;
 use plan::Entry;
 use signed::word_of;
 use tile::Bank;
@@ -176,6 +178,26 @@ pub fn entry_words(e: Entry) -> [u64; 11]
             row,
         } => rect_words(tile, ulx, uly, lrx, lry, uls, ult, dsdx, dtdy, row),
     }
+}
+
+// An end's words, which no plan stores: 9, its four numbers, then zeros.
+pub fn end_words(end: End) -> [u64; 11]
+    ensures { λ r. ⌜ r ≡ endWords end ⌝ }
+{
+    let v = end.verdict;
+    [
+        9,
+        number(v),
+        end.entries,
+        end.rectangles,
+        end.words,
+        0,
+        0,
+        0,
+        0,
+        0,
+        0,
+    ]
 }
 
 // The tile that an entry names. Its bounds are not read: setting a tile keeps them.

@@ -9,6 +9,7 @@ pub use count::Counts;
 pub use count::counted;
 pub use count::end_of;
 pub use entry::bank_after;
+pub use entry::end_words;
 pub use entry::entry_words;
 pub use entry::image_words;
 pub use entry::load_words;

@@ -6,8 +6,8 @@ use borrow.Author.Needs.{needs}
 use Rattle.lines.proofs.line.end_line.Statement.{statement}
 use Rattle.lines.proofs.line.end_line.Tie as tie
 
-number-requires : tie.Need-number-requires
-number-requires c κs = search needs
+end-words-requires : tie.Need-end-words-requires
+end-words-requires c κs = search needs
 
 row-requires : tie.Need-row-requires
 unfolding totalOf
@@ -18,7 +18,7 @@ same-length c = search needs
 
 returns : tie.Need-returns
 unfolding endText
-returns c = rw (← c .before .before .before .before .number .ensures) (c .before .before .row .ensures)
+returns c = rw (← c .before .before .before .end-words .ensures) (c .before .before .row .ensures)
 
 pub end-line-spec : {M : Type 1} → statement M
-end-line-spec = tie.close (tie.spec number-requires row-requires same-length returns)
+end-line-spec = tie.close (tie.spec end-words-requires row-requires same-length returns)
