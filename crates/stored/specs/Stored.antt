@@ -29,11 +29,11 @@ use Rattle.planner.specs.Coming.{Sound}
 use Rattle.planner.specs.Step.{plannerAt}
 use Rattle.stored.specs.declared.types.Loaded.{Loaded}
 use Rattle.stored.specs.declared.types.Loaded.the-variants as loaded
-use Rattle.stored.specs.Test.{both, each, countsTest, counts-yes, counts-no}
-use Rattle.stored.specs.Copied.{copyWords, copyFrom, copyTest, copy-yes, copy-no, copy-back, placeTest, place-yes, place-no, place-back}
-use Rattle.stored.specs.Copied as copied
-use Rattle.stored.specs.Passed.{scaledWords, FitsPlace, scaledFrom, walkFrom, stageTest, stage-yes, stage-no, scaled-back, start-at}
-use Rattle.stored.specs.Passed as passed
+use Rattle.fields.specs.Test.{both, each, countsTest, counts-yes, counts-no}
+use Rattle.copied.specs.Copied.{copyWords, copyFrom, copyTest, copy-yes, copy-no, copy-back, placeTest, place-yes, place-no, place-back}
+use Rattle.copied.specs.Copied as copied
+use Rattle.passed.specs.Passed.{scaledWords, FitsPlace, scaledFrom, walkFrom, stageTest, stage-yes, stage-no, scaled-back, start-at}
+use Rattle.passed.specs.Passed as passed
 
 -- ---- a planner's words: word 0 is the stage, words 1 to 4 the counts, the rest is the course's
 

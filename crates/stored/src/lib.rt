@@ -1,7 +1,4 @@
 // A planner as 39 words that a host keeps, and back.
-mod copied;
-mod numbers;
-mod passed;
 mod planner_words;
 mod types;
 

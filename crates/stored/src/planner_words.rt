@@ -2,12 +2,10 @@
 ghost use mathlib.Core.Path.{_≡_};
 ghost use Rattle.stored.specs.Stored.{overWords, StoredIs, loadedIs, verdictFrom, countsFrom, courseFrom, plannerFrom, soundTest};
 ghost use Rattle.stored.specs.Same.{Same};
-use crate::copied;
-use crate::numbers::counts_sound;
-use crate::passed;
 use crate::types::Loaded;
 use checks::number;
 use copy::Due;
+use fields::counts_sound;
 use object::Verdict;
 use planner::Course;
 use planner::Planner;

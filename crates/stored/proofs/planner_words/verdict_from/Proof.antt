@@ -1,4 +1,4 @@
--- `stored::planner_words::verdict_from`: each arm says which number it is. Assumes nothing.
+-- `stored::verdict_from`: each arm says which number it is. Assumes nothing.
 use borrow.Author.Tests.{ne-eqb}
 use Rattle.stored.proofs.planner_words.verdict_from.Statement.{statement}
 use Rattle.stored.proofs.planner_words.verdict_from.Tie as tie

@@ -1,0 +1,3 @@
+-- The single words of a stored planner.
+pub mod Test
+pub mod Signed
