@@ -24,7 +24,8 @@ use Rattle.planner.specs.Coming.{coming}
 use Rattle.planner.specs.Step.{plannerAt, counts-at-end}
 use Rattle.stored.specs.declared.types.Loaded.{Loaded}
 use Rattle.stored.specs.declared.types.Loaded.the-variants as loaded
-use Rattle.stored.specs.Stored.{WordsOf, loadedIs, storedOf, one-planner, thirty-nine}
+use Rattle.stored.specs.Stored.{WordsOf, loadedIs, storedOf}
+use Rattle.stored.proofs.Laws.{one-planner, thirty-nine}
 use Rattle.stepping.specs.Host.{answerWords, setsNext, Has, Moved, stepFrom, StepOf, StepIs, StartIs}
 
 -- ---- one call

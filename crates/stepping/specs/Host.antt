@@ -1,10 +1,9 @@
 -- What the stepping functions leave to the host: words that have something to come, and one step of it. D is docs/SPECIFICATION.md, section 10.
 -- Assumes nothing.
-use mathlib.Core.Path.{_≡_, refl, ap, _∙_}
+use mathlib.Core.Path.{_≡_}
 use mathlib.Core.Bool.{Bool, true, false, _&&_}
 use mathlib.Core.List.{List, [], _∷_}
 use Prim.Native.Nat.{ℕ}
-use native.Mathlib.Omega.{arith}
 use lib.Dec.{eqb}
 use lib.ListN.{length}
 use Rattle.plan.specs.declared.types.Entry.{Entry}
@@ -20,12 +19,11 @@ use Rattle.planner.specs.declared.types.Course.the-variants as course
 use Rattle.planner.specs.declared.types.Planner.{Planner}
 use Rattle.planner.specs.declared.types.Given.{Given}
 use Rattle.planner.specs.declared.types.Given.the-variants as given
-use Rattle.planner.specs.declared.types.Step.{Step}
-use Rattle.planner.specs.Coming.{coming, Sound, answerIn, leftIn, leftNext, countsNext, StepGives}
+use Rattle.planner.specs.Coming.{coming}
 use Rattle.planner.specs.Step.{plannerAt}
 use Rattle.stored.specs.declared.types.Loaded.{Loaded}
 use Rattle.stored.specs.declared.types.Loaded.the-variants as loaded
-use Rattle.stored.specs.Stored.{storedOf, StoredIs, WordsOf, loadedIs}
+use Rattle.stored.specs.Stored.{storedOf, WordsOf, loadedIs}
 
 -- a step's answer as eleven words
 abbrev pub answerWords : Answer → List ℕ
@@ -80,23 +78,3 @@ startWith false object request ws r ws′ = (r ≡ 1) × (ws′ ≡ ws)
 
 abbrev pub StartIs : (object request ws : List ℕ) → ℕ → List ℕ → Type 0
 StartIs object request ws r ws′ = startWith (eqb (length request) 7 && eqb (length ws) 39) object request ws r ws′
-
--- ---- from the planner's step to its words
-
--- what sets the bank, in terms of what was to come
-sets-next : (es left : List Entry) (x : End) (g : Given) → answerIn g ≡ answerOf es x → leftIn g ≡ leftNext es left → setsIn g ≡ setsNext es left
-sets-next [] left x (given.Entry e) a l = let z : _≡_ {A = ℕ} 0 1 = cc in absurd (omega arith)
-sets-next [] left x (given.Refused s y) a l = l
-sets-next [] left x (given.End y) a l = l
-sets-next (e ∷ es) left x (given.Entry f) a l = let k : f ≡ e = cc in ap (λ (d : Entry). d ∷ []) k
-sets-next (e ∷ es) left x (given.Refused s y) a l = let z : _≡_ {A = ℕ} 0 1 = cc in absurd (omega arith)
-sets-next (e ∷ es) left x (given.End y) a l = let z : _≡_ {A = ℕ} 0 1 = cc in absurd (omega arith)
-
-pub moved-is : (p : Planner) (s : Step) → StepGives p s → (bank ws′ bank′ out′ : List ℕ) → StoredIs (s .planner) ws′ → bank′ ≡ wordsAfter bank (setsIn (s .given)) → out′ ≡ answerWords (answerIn (s .given)) → Moved p bank ws′ bank′ out′
-moved-is p s g bank ws′ bank′ out′ k b o =
-    record {
-      out = o ∙ ap answerWords (g .answer);
-      set = b ∙ ap (wordsAfter bank) (sets-next (coming p .entries) (coming p .left) (coming p .end) (s .given) (g .answer) (g .left));
-      has = record { planner = s .planner; words = record { stored = k; sound = g .sound }; coming = g .rest };
-      over = λ none. k .is ∙ (λ j. storedOf (plannerAt (g .over none j) ((g .counts ∙ ap (λ (es : List Entry). countsNext es (p .counts)) none) j)));
-    }

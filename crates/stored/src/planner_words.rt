@@ -5,57 +5,22 @@ ghost use Rattle.stored.specs.Same.{Same};
 use crate::types::Loaded;
 use checks::number;
 use copy::Due;
-use fields::counts_sound;
 use object::Verdict;
 use planner::Course;
 use planner::Planner;
+use stored_fields::counts_sound;
 use words::Counts;
 
 fn over_words(v: Verdict, n: Counts) -> [u64; 39]
     ensures { λ r. ⌜ r ≡ overWords v n ⌝ }
 {
-    let k = number(v);
-    [
-        0,
-        n.entries,
-        n.rectangles,
-        n.words,
-        n.line,
-        k,
-        0,
-        0,
-        0,
-        0,
-        0,
-        0,
-        0,
-        0,
-        0,
-        0,
-        0,
-        0,
-        0,
-        0,
-        0,
-        0,
-        0,
-        0,
-        0,
-        0,
-        0,
-        0,
-        0,
-        0,
-        0,
-        0,
-        0,
-        0,
-        0,
-        0,
-        0,
-        0,
-        0,
-    ]
+    let mut words = [0u64; 39];
+    words[1] = n.entries;
+    words[2] = n.rectangles;
+    words[3] = n.words;
+    words[4] = n.line;
+    words[5] = number(v);
+    words
 }
 
 // A planner's words.
@@ -64,8 +29,8 @@ pub fn stored(p: Planner) -> [u64; 39]
 {
     let course = p.course;
     match course {
-        Course::Copy(stage, place) => copied::copy_words(stage, place, p.counts),
-        Course::Scaled(stage, place) => passed::scaled_words(stage, place, p.counts),
+        Course::Copy(stage, place) => stored_copy::copy_words(stage, place, p.counts),
+        Course::Scaled(stage, place) => stored_scaled::scaled_words(stage, place, p.counts),
         Course::Over(v) => over_words(v, p.counts),
     }
 }
@@ -108,13 +73,16 @@ fn course_from(words: &[u64; 39]) -> Course
         return Course::Over(verdict_from(words[5]));
     }
     if k == 1 {
-        let place = copy::copy_start(copied::copy_from(words));
+        let place = copy::copy_start(stored_copy::copy_from(words));
         return Course::Copy(copy::Stage::Strip(Due::Image), place);
     }
     if k < 8 {
-        return Course::Copy(copied::stage_from(k), copied::place_from(words));
+        return Course::Copy(stored_copy::stage_from(k), stored_copy::place_from(words));
     }
-    Course::Scaled(passed::stage_from(k), passed::place_from(words))
+    Course::Scaled(
+        stored_scaled::stage_from(k),
+        stored_scaled::place_from(words),
+    )
 }
 
 fn planner_from(words: &[u64; 39]) -> Planner
@@ -135,22 +103,22 @@ fn sound(words: &[u64; 39]) -> bool
         return counts_sound(n, 0);
     }
     if k == 1 {
-        return copied::copy_sound(words) & counts_sound(n, 5242881);
+        return stored_copy::copy_sound(words) & counts_sound(n, 5242881);
     }
     if k < 8 {
-        if !copied::place_sound(words) {
+        if !stored_copy::place_sound(words) {
             return false;
         }
         return counts_sound(
             n,
-            copied::copy_left(copied::stage_from(k), copied::place_from(words)),
+            stored_copy::copy_left(stored_copy::stage_from(k), stored_copy::place_from(words)),
         );
     }
-    let stage = passed::stage_from(k);
-    if !passed::stage_sound(stage, words) {
+    let stage = stored_scaled::stage_from(k);
+    if !stored_scaled::stage_sound(stage, words) {
         return false;
     }
-    counts_sound(n, passed::scaled_left(stage, words))
+    counts_sound(n, stored_scaled::scaled_left(stage, words))
 }
 
 // By value: an array behind a reference does not tell its length.

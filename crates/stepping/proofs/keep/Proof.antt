@@ -1,7 +1,7 @@
 -- `stepping::keep` meets its contract: 39 words fill the state. Assumes nothing.
 use mathlib.Core.Path.{_≡_, sym, ap, _∙_}
 use lib.ListN.{length}
-use Rattle.stored.specs.Stored.{thirty-nine}
+use Rattle.stored.proofs.Laws.{thirty-nine}
 use Rattle.words.proofs.Pasted.{filled}
 use borrow.Author.Needs.{needs}
 use Rattle.stepping.proofs.keep.Statement.{statement}

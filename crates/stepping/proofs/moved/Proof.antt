@@ -1,5 +1,5 @@
 -- `stepping::moved` meets its contract: the planner's step, put into words. Assumes nothing.
-use Rattle.stepping.specs.Host.{moved-is}
+use Rattle.stepping.proofs.Movement.{moved-is}
 use borrow.Author.Needs.{needs}
 use Rattle.stepping.proofs.moved.Statement.{statement}
 use Rattle.stepping.proofs.moved.Tie as tie

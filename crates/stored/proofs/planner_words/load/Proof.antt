@@ -2,7 +2,8 @@
 use mathlib.Core.Path.{sym, ap, subst, _∙_}
 use mathlib.Core.Bool.{true≢false}
 use borrow.Author.Tests.{not-true, not-false}
-use Rattle.stored.specs.Stored.{storedOf, test-sound, words-return}
+use Rattle.stored.specs.Stored.{storedOf}
+use Rattle.stored.proofs.Laws.{test-sound, words-return}
 use borrow.Author.Needs.{needs}
 use Rattle.stored.proofs.planner_words.load.Statement.{statement}
 use Rattle.stored.proofs.planner_words.load.Tie as tie

@@ -4,7 +4,7 @@ use Prim.Native.Nat.{_≤_, _-_}
 use native.Mathlib.Omega.{arith}
 use borrow.Author.Needs.{needs}
 use lib.ListN.{take}
-use Rattle.stored.specs.Same.{one-more, one-differs, no-more}
+use Rattle.stored.proofs.Laws.{one-more, one-differs, no-more}
 use Rattle.stored.proofs.planner_words.same.Statement.{statement}
 use Rattle.stored.proofs.planner_words.same.Tie as tie
 

@@ -2,8 +2,8 @@
 use mathlib.Core.Path.{sym, ap, _∙_}
 use lib.ListN.{getD}
 use borrow.Author.Tests.{eq-eqb, ne-eqb, lt-ltb, le-ltb, not-true, not-false}
-use Rattle.copied.specs.Copied.{place-yes}
-use Rattle.passed.specs.Passed.{few-lines}
+use Rattle.stored_copy.proofs.Laws.{place-yes}
+use Rattle.stored_scaled.proofs.Laws.{few-lines}
 use Rattle.stored.specs.Stored.{soundTest}
 use borrow.Author.Needs.{needs}
 use Rattle.stored.proofs.planner_words.sound.Statement.{statement}

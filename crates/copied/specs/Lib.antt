@@ -1,2 +1,0 @@
--- A copy course as words.
-pub mod Copied

@@ -1,2 +1,0 @@
--- A scaled course as words.
-pub mod Passed

@@ -1,0 +1,2 @@
+-- A copy course as words.
+pub mod Course

@@ -1,0 +1,2 @@
+-- A scaled course as words.
+pub mod Course
