@@ -21,9 +21,9 @@ use Rattle.drift.specs.Words.{rectsFrom, Short, short-entries}
 use Rattle.giving.specs.Host.{bankNumbers, wordsStep, wordsAfter, words-step, words-after, eight-still}
 use Rattle.request.specs.Host.{hostRequest}
 use Rattle.stepping.specs.Host.{answerWords, StartIs}
-use Rattle.stepping.specs.Calls.{Calls, BankCalls, answered, bankWordsTo, plan-stepped, bank-stepped}
+use Rattle.demands.specs.Calls.{Calls, BankCalls, answered, bankWordsTo, plan-stepped, bank-stepped}
 
--- ---- demand 2: `stepping/Calls.plan-stepped` has the answers; the bank's words, where they are a bank's, are the numbers of the bank of as many steps
+-- ---- demand 2: `demands/Calls.plan-stepped` has the answers; the bank's words, where they are a bank's, are the numbers of the bank of as many steps
 
 eight-after : (es : List Entry) (b : Bank) → length (b .tiles) ≡ 8 → length (bankAfter b es .tiles) ≡ 8
 unfolding bankAfter

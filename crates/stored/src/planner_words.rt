@@ -93,6 +93,9 @@ fn planner_from(words: &[u64; 39]) -> Planner
     Planner { course, counts }
 }
 
+// A start has a texture image and five entries for each of 1,024 by 1,024 cells to come, at the most.
+const ALL: u64 = 5242881;
+
 // Whether the planner of the words is sound, tested before it is made: what a step asks of its numbers, and few enough entries.
 fn sound(words: &[u64; 39]) -> bool
     ensures { λ r. ⌜ r ≡ soundTest (now (words .entry)) ⌝ }
@@ -103,7 +106,7 @@ fn sound(words: &[u64; 39]) -> bool
         return counts_sound(n, 0);
     }
     if k == 1 {
-        return stored_copy::copy_sound(words) & counts_sound(n, 5242881);
+        return stored_copy::copy_sound(words) & counts_sound(n, ALL);
     }
     if k < 8 {
         if !stored_copy::place_sound(words) {
