@@ -1,4 +1,4 @@
--- `stored_copy::copy_left` meets its contract. Assumes nothing.
+-- `stored_copy::copy_left` meets its contract: the definition's sum for each stage. Assumes nothing.
 use borrow.Author.Needs.{needs}
 use Rattle.stored_copy.proofs.copy_left.Statement.{statement}
 use Rattle.stored_copy.proofs.copy_left.Tie as tie

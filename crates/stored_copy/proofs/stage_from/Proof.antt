@@ -1,4 +1,4 @@
--- `stored_copy::stage_from` meets its contract. Assumes nothing.
+-- `stored_copy::stage_from` meets its contract: the definition's choice, number by number. Assumes nothing.
 use borrow.Author.Tests.{ne-eqb}
 use Rattle.stored_copy.proofs.stage_from.Statement.{statement}
 use Rattle.stored_copy.proofs.stage_from.Tie as tie

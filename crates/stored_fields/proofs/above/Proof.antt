@@ -1,4 +1,4 @@
--- `stored_fields::above` meets its contract. Assumes nothing.
+-- `stored_fields::above` meets its contract: the lower half of the words are their numbers, the upper half lie below 0. Assumes nothing.
 use Prim.Native.Nat.{_-_}
 use Rattle.signed.specs.Word.{rdn, reads-high}
 use Rattle.signed.specs.Diff.{up, zdiff, zparts, zarith}

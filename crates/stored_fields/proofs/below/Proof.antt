@@ -1,4 +1,4 @@
--- `stored_fields::below` meets its contract. Assumes nothing.
+-- `stored_fields::below` meets its contract: the lower half of the words lie above 0, the upper half are 2^64 short of 0. Assumes nothing.
 use Prim.Native.Nat.{_-_}
 use Rattle.signed.specs.Word.{rdn, reads-high}
 use Rattle.signed.specs.Diff.{dn, zdiff, zparts, zarith}

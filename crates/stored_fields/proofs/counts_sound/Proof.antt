@@ -1,4 +1,4 @@
--- `stored_fields::counts_sound` meets its contract. Assumes nothing.
+-- `stored_fields::counts_sound` meets its contract: one comparison for each of the definition's tests. Assumes nothing.
 use borrow.Author.Needs.{needs}
 use Rattle.stored_fields.proofs.counts_sound.Statement.{statement}
 use Rattle.stored_fields.proofs.counts_sound.Tie as tie

@@ -1,4 +1,4 @@
--- `stored_fields::room` meets its contract. Assumes nothing.
+-- `stored_fields::room` meets its contract: a difference in place of the sum. Assumes nothing.
 use Prim.Native.Nat.{_+_}
 use mathlib.Core.Path.{sym}
 use native.Mathlib.Omega.{arith}

@@ -1,4 +1,4 @@
--- `stored_fields::signed_of` meets its contract. Assumes nothing.
+-- `stored_fields::signed_of` meets its contract: the upper half of the words are 2^64 less. Assumes nothing.
 use Prim.Native.Nat.{_-_}
 use Rattle.signed.specs.Word.{rd, rdn, reads-high}
 use Rattle.signed.specs.Diff.{zdiff, zarith}
