@@ -290,8 +290,8 @@ uint64_t visor_start(const uint8_t *object, size_t object_bytes, const uint64_t 
    Answers 1, and changes nothing, also where the words of state are no planner's. Damaged words, or those of another version,
    may happen to be some planner's: then that one is stepped.
 
-   STEP OR RUN. visor_run makes a whole plan at once, in some 6 to 9 ns an entry, and wants a buffer for it. visor_step takes
-   some 50 to 90 ns a call, however far the plan is, and wants VISOR_STATE_WORDS words and no buffer: for a progress bar, for an
+   STEP OR RUN. visor_run makes a whole plan at once, in some 6 to 12 ns an entry, and wants a buffer for it. visor_step takes
+   some 50 to 100 ns a call, however far the plan is, and wants VISOR_STATE_WORDS words and no buffer: for a progress bar, for an
    inspector, for a cabinet that shares a frame's time. The share that is done is the entries so far of those that visor_count
    says.
    Lengths: VISOR_STATE_WORDS, VISOR_BANK_WORDS, VISOR_ENTRY_WORDS. */

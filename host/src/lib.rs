@@ -54,8 +54,8 @@
 //!
 //! # Stepping
 //!
-//! [`run`] and [`Buffer`] make a whole plan at once, in some 6 to 9 ns an entry, and want memory for
-//! all of it. A [`Planner`] makes one entry at a time, in some 50 to 90 ns however far the plan is,
+//! [`run`] and [`Buffer`] make a whole plan at once, in some 6 to 12 ns an entry, and want memory for
+//! all of it. A [`Planner`] makes one entry at a time, in some 50 to 100 ns however far the plan is,
 //! and keeps the bank beside it; it wants no memory but its own. Run where the whole plan is wanted;
 //! step for a progress bar, for an inspector, for a cabinet that shares a frame's time.
 //!

@@ -17,9 +17,9 @@ const LONGEST: usize = 5_232_646;
 /// beside it.
 ///
 /// Step where a plan is to share a frame's time, or to be shown as it goes: a progress bar, an
-/// inspector, a cabinet. A step takes some 50 to 90 ns, however far the plan is, and no memory but
+/// inspector, a cabinet. A step takes some 50 to 100 ns, however far the plan is, and no memory but
 /// the planner itself. Where the whole plan is wanted at once, [`run`](crate::run) or `Buffer` is
-/// the better choice: some 6 to 9 ns an entry, into memory for all of them.
+/// the better choice: some 6 to 12 ns an entry, into memory for all of them.
 ///
 /// A clone is a snapshot: 39 words of planner and 136 of bank, from which the plan goes on as it
 /// would have. Planners do not know of each other, and may be stepped in any order and sent to
