@@ -61,16 +61,16 @@ fn axis_of(frame: Quarters, size: Quarters, low: i32, high: i32) -> Axis
     Axis { edge, cells, skip }
 }
 
-// The texels in a word of texture memory: 16, 8, 4 or 2.
+// The texels in a word of texture memory: its 64 bits over the bits of a texel, by the sizes of the GBI headers.
 pub fn texels_per_word(siz: u8) -> u64
     requires { siz ≤ 3 }
     ensures { result ≡ 16 / 2 ^ siz }
 {
     match siz {
-        0 => 16,
-        1 => 8,
-        2 => 4,
-        _ => 2,
+        0 => 64 / 4, // G_IM_SIZ_4b: 16 texels
+        1 => 64 / 8, // G_IM_SIZ_8b: 8 texels
+        2 => 64 / 16, // G_IM_SIZ_16b: 4 texels
+        _ => 64 / 32, // G_IM_SIZ_32b: 2 texels
     }
 }
 
