@@ -28,9 +28,9 @@ extern "C" {
 /* ---- The version: of this header, and of the archive that is linked. They belong together if VISOR_VERSION == visor_version(). */
 
 #define VISOR_VERSION_MAJOR 0
-#define VISOR_VERSION_MINOR 4
+#define VISOR_VERSION_MINOR 5
 #define VISOR_VERSION_PATCH 0
-#define VISOR_VERSION_TEXT "0.4.0"
+#define VISOR_VERSION_TEXT "0.5.0"
 #define VISOR_VERSION (VISOR_VERSION_MAJOR * 65536 + VISOR_VERSION_MINOR * 256 + VISOR_VERSION_PATCH)
 
 uint64_t visor_version(void);
@@ -210,7 +210,7 @@ static inline const char *visor_verdict_text(uint64_t verdict) {
     case VISOR_VERDICT_PIECE:
         return "A part of a scaled strip has no rows, no width or no place in texture memory.";
     case VISOR_VERDICT_ADDRESS:
-        return "An image address leaves the 64-bit address space.";
+        return "An image address, or the end of a load, leaves the 64-bit address space.";
     case VISOR_VERDICT_FULL:
         return "The plan buffer has no room for the next entry.";
     default:
@@ -255,8 +255,11 @@ enum visor_told {
    THE BANK IN THE MIDDLE OF A PLAN. bank comes back as it is after the *last* entry that stands. A rectangle or a load in the
    middle is meant for the tiles as they are *there*: a host that draws keeps the bank from before the run, and calls
    visor_apply for each entry before it acts on it. With all entries applied it has the bank that visor_run left, with one
-   exception: a copy load that is refused (VISOR_VERDICT_ADDRESS) has already set the bounds of tile 7, which is no entry; take the
+   exception: a load that is refused (VISOR_VERDICT_ADDRESS) has already set the bounds of tile 7, which is no entry; take the
    bank of visor_run then. A host that stops in the middle goes on with the bank that it has applied so far.
+
+   ADDRESSES. Every load entry has a start and a length whose sum is at most 2^64 - 1. A load that would reach further is refused,
+   and has no entry.
 
    VISOR_VERDICT_FULL says that plan had no room for the next entry; the entries that fitted stand, and bank is theirs.
    Lengths: VISOR_REQUEST_WORDS, VISOR_BANK_WORDS, VISOR_END_WORDS; object and plan may have any. */
@@ -283,8 +286,8 @@ uint64_t visor_start(const uint8_t *object, size_t object_bytes, const uint64_t 
 
 /* One step of a planner: out has the next entry, as visor_run would store it, or the end, VISOR_KIND_END and its numbers
    (visor_step_end); state has the planner with the rest to come. bank has what the step sets, and no other word of it changes:
-   what the entry sets, as visor_apply has it, so that a host acts on the entry with this bank; and at the end of a copy plan
-   refused by VISOR_VERDICT_ADDRESS the bounds of tile 7, which the refused load has set. After the end every further call
+   what the entry sets, as visor_apply has it, so that a host acts on the entry with this bank; and at the end of a plan whose
+   load is refused by VISOR_VERDICT_ADDRESS the bounds of tile 7, which that load has set. After the end every further call
    answers the same end and changes neither state nor bank. VISOR_VERDICT_FULL never comes: there is no buffer.
 
    Answers 1, and changes nothing, also where the words of state are no planner's. Damaged words, or those of another version,

@@ -4,11 +4,11 @@ docs/SPECIFICATION.md, section 13.
 
   make_cases.py ORACLE CASES RECORDS CRATES     plan/specs/Unit.antt, plan/specs/Edges.antt and cases/specs/Sample.antt below CRATES
 
-ORACLE is the program that differential/build makes, CASES the folder that `oracle --cases` writes, RECORDS the list of crates/replay, in which
-the sample records stand after the worked cases. Every expected number comes from the oracle's output, and what the specification says of
+ORACLE is the program that differential/build makes, which names the edge records; CASES the folder that `oracle --cases` writes; RECORDS the list of
+crates/replay, in which the sample records stand after the worked cases and before the edge records. Every expected number comes from the oracle's output, and what the specification says of
 its cases from SAID below. `differential/run cases` runs this, and `differential/run answers` holds the files against it.
 """
-import struct, subprocess, sys
+import subprocess, sys
 
 SEVEN = 7
 
@@ -75,63 +75,21 @@ def records(path):
     data = open(path, 'rb').read()
     return [data[i:i + 61] for i in range(0, len(data), 64)]
 
-def copy(w, h, fw=None, fh=None, th=8, x=0, y=0, fx=0, fy=0, siz=2, fmt=0, flip=0, right=320, load=0xfff4, size_w=1, pal=0, address=4096):
-    """case L, with changes"""
-    return (struct.pack('>HHhHHHhHIHBBHH', x, w, fx, fw or w, y, h, fy, fh or h, 0, load, fmt, siz, pal, flip)
-            + struct.pack('>HHHHHH', 0, th, th * size_w % 65536, 0, size_w, th * size_w // 65536)
-            + struct.pack('>HHHHIBQ', 0, 0, right, 240, 0, 10, address))
-
-def scaled(w=1280, h=960, fw=None, fh=None, sw=1024, sh=1024, x=0, y=0, fx=0, fy=0, siz=2, fmt=0, flip=0, origin=0, right=320, mode=0, pal=0, address=4096):
-    """case E, with changes"""
-    return (struct.pack('>HHhHHHhHIHBBHH', x, w, fx, fw or w, y, h, fy, fh or h, 0, 0xfff4, fmt, siz, pal, flip)
-            + struct.pack('>HHiI', sw, sh, origin, 0) + struct.pack('>HHHHIBQ', 0, 0, right, 240, mode, 9, address))
-
-EDGES = [
-    ('a flipped copy load of 1,025 columns: uls cut to 16 bits', copy(4160, 4, 4092, 4, th=4, x=64, siz=0, flip=1, right=1023)),
-    ('8 × 32 words, siz 3', copy(512, 64, th=32, siz=3)),
-    ('9 × 32 words, siz 3: 7', copy(512, 64, th=36, siz=3)),
-    ('8 × 32 words, fmt 2', copy(512, 64, th=32, fmt=2)),
-    ('9 × 32 words, fmt 2: 7', copy(512, 64, th=36, fmt=2)),
-    ('512 words, fmt 4', copy(512, 64, th=64, fmt=4)),
-    ('a palette cut to 8 bits', copy(64, 8, fmt=1, siz=1, pal=300)),
-    ('flip 2: 5', copy(64, 8, flip=2)),
-    ('an empty copy frame', copy(64, 8, fh=3)),
-    ('load 0x0033 in a copy: 5', copy(64, 8, load=0x33)),
-    ('a copy load refused by 9, after the size is set', copy(64, 8, address=2**64 - 32)),
-    ('the same with an image row that is not 0', copy(64, 16, th=8, y=64, address=2**64 - 40)),
-    ('rows before the image', scaled(fh=160, sh=6000, origin=-8416)),
-    ('the same at address 0: 9', scaled(fh=160, sh=6000, origin=-8416, address=0)),
-    ('an address sum that leaves 2^64: 9 after 122 entries', scaled(address=2**64 - 153600)),
-    ('an address sum that just fits', scaled(address=2**64 - 153601)),
-    ('9 with no entries', scaled(x=128, address=2**64 - 1)),
-    ('image_h 3 and an empty frame', scaled(h=3)),
-    ('image_h 3: 6', scaled(h=3, sh=512)),
-    ('a flipped scaled frame', scaled(flip=1, x=63)),
-    ('flip 2 in a scaled frame', scaled(flip=2)),
-    ('a scale above 2^15', scaled(sw=40000, fh=24)),
-    ('scales of 0', scaled(sw=0, sh=0, fw=64, fh=64)),
-    ('a scaled uls cut to 16 bits', scaled(8192, 8, 4092, 4, x=63, siz=3, flip=1, right=1023)),
-    ('63 passes in a row without a line', scaled(4096, 400, 64, 64, sh=65535)),
-    ('a start below the origin', scaled(y=192, fh=240)),
-    ('a start above the origin', scaled(y=0, origin=33344, sw=1000, sh=1000, fh=80)),
-    ('a start above the origin, at a scale of 1,029', scaled(sh=1029, origin=6720, fh=80)),
-    ('an origin between rows', scaled(sw=1000, sh=1000, y=62, origin=-31, fh=80)),
-    ('bilerp', scaled(mode=8, fh=80)),
-    ('bilerp with a wrap, a last row in two parts and a clipped corner', scaled(mode=8, x=5000, y=7600, fh=80, fx=-40, fy=-37, pal=300)),
-    ('case I at image_x 0', scaled(4096, 8, 1296, 4, x=0, siz=3, right=1023)),
-]
-PICKED = [(27, 'wrapping in both directions'), (36, 'flipped strips'), (40, 'a clipped top'), (68, '5 before an empty frame'), (127, 'a destination below 0: 8')]
-
-SAMPLES = 152
+def edges(oracle):
+    """(what it is for, bytes) of each edge record"""
+    out = subprocess.run([oracle, '--edges'], capture_output=True, check=True).stdout.decode()
+    lines = [line.split(' ', 1) for line in out.splitlines()]
+    return [(what, bytes.fromhex(digits)) for digits, what in lines]
 
 def main():
     oracle, cases, replayed, crates = sys.argv[1:]
     counts = dict(l.split() for l in open(f'{cases}/list.txt'))
     case = lambda name: ('D ' + SAID[name][0], row(oracle, open(f'{cases}/{name}.bin', 'rb').read(), int(counts[name]), said=SAID[name][1]))
-    sample = records(replayed)[len(counts):len(counts) + SAMPLES]
-    picked = [(f'sample record {i}: {c}', sample[i]) for i, c in PICKED]
+    edge = edges(oracle)
+    listed = records(replayed)[len(counts):]
+    sample = listed[:listed.index(edge[0][1])]
     module(oracle, f'{crates}/plan/specs/Unit.antt', 'The worked cases L, A, B, C, D, E, G, H, I, J, in this order, as a unit: from the 61 bytes to the whole plan, the bank, and the figures of docs/SPECIFICATION.md, section 13, which the quotes call D.', [('unit', [case(c) for c in 'L A B C D E G H I J'.split()])])
-    module(oracle, f'{crates}/plan/specs/Edges.antt', 'Records at the edges of the rules.', [('edges', [(c, row(oracle, r)) for c, r in EDGES + picked])], 'Unit')
+    module(oracle, f'{crates}/plan/specs/Edges.antt', 'Records at the edges of the rules.', [('edges', [(what, row(oracle, record)) for what, record in edge])], 'Unit')
     module(oracle, f'{crates}/cases/specs/Sample.antt', 'The sample records of crates/replay.', [('sample', [('', row(oracle, r)) for r in sample])], 'Unit')
 
 main()

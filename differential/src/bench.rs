@@ -107,7 +107,7 @@ impl Original {
         };
         self.machine.rsp.plan.at = 0;
         self.machine.diagnostics.clear();
-        let memory = CaseMemory::new(&record.object, record.address, false);
+        let memory = CaseMemory::new(&record.object, record.address);
         self.machine.call(planner, record, memory);
         self.machine.rsp.plan.at / 11
     }

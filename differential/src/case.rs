@@ -4,7 +4,8 @@ use crate::generate::{self, Mode};
 use crate::proved::REQUEST_WORDS;
 use crate::random::Random;
 use crate::record::{initial_bank, Record, OBJECT_BYTES};
-use crate::run::Settings;
+use crate::run::{Answer, Settings};
+use crate::spans;
 
 /// A record with what goes in beside it.
 #[derive(Clone)]
@@ -46,6 +47,16 @@ impl Case {
         case
     }
 
+    /// The same with its image at the last address (spans.rs).
+    pub fn moved(&self, answer: &Answer, random: &mut Random) -> Option<Case> {
+        let record = spans::moved(&self.record, answer, random)?;
+        let mut case = self.clone();
+        case.record = record;
+        case.request[6] = record.address;
+        case.draw = random.next();
+        Some(case)
+    }
+
     pub fn fixed(record: Record, object_bytes: usize) -> Case {
         Case {
             record,
@@ -62,7 +73,6 @@ impl Case {
             bank: initial_bank(self.bank_seed),
             object_bytes: self.object.len().min(OBJECT_BYTES),
             capacity,
-            span_check: false,
         }
     }
 }

@@ -9,7 +9,8 @@
 //! random bank and is run into a buffer with room for all, into one that is too short by 0 to 11
 //! words and, now and then, into one of any length and one of no words. Then it is stepped to its
 //! end and beyond, with the planner of the record before it stepped in between; and its rectangles
-//! are measured into buffers of three lengths.
+//! are measured into buffers of three lengths. One record in four comes again with its image so
+//! near the last address that one of its loads ends there.
 
 #![allow(dead_code, unused_imports, unexpected_cfgs)]
 
@@ -31,6 +32,7 @@ mod random;
 mod record;
 mod run;
 mod scene;
+mod spans;
 mod stepped;
 
 pub use diag::{DiagKind, Diagnostic, MemoryAccess};
@@ -53,6 +55,8 @@ use std::time::Instant;
 use stepped::Planned;
 
 const BLOCK: u64 = 1_000;
+/// So many records show every place where a load is refused for its span.
+const ALL_PLACES: u64 = 200_000;
 const MODES: [(&str, Mode); 8] = [
     ("mixed", Mode::Mixed),
     ("copy", Mode::Copy),
@@ -67,6 +71,10 @@ const MODES: [(&str, Mode); 8] = [
 #[derive(Clone, Default)]
 struct Tally {
     records: u64,
+    /// Records that came again at the last address.
+    moved: u64,
+    /// Plans whose load was refused for its span, by place.
+    spans: [u64; spans::PLACES.len()],
     runs: u64,
     entries: u64,
     most: u64,
@@ -108,6 +116,7 @@ impl Tally {
 
     fn add(&mut self, other: &Tally) {
         self.records += other.records;
+        self.moved += other.moved;
         self.runs += other.runs;
         self.entries += other.entries;
         self.most = self.most.max(other.most);
@@ -118,6 +127,9 @@ impl Tally {
         self.second += other.second;
         self.measured += other.measured;
         self.apt += other.apt;
+        for (mine, theirs) in self.spans.iter_mut().zip(other.spans) {
+            *mine += theirs;
+        }
         let mine = self.verdicts.iter_mut().chain(&mut self.counts);
         let theirs = other.verdicts.iter().chain(&other.counts);
         for (mine, theirs) in mine.zip(theirs) {
@@ -138,10 +150,14 @@ impl Tally {
             println!();
         }
         println!(
-            "{} records, {} of them with fewer than 40 bytes of object; {} runs, {} entries, \
-             at most {} in a plan",
-            self.records, self.short_objects, self.runs, self.entries, self.most
+            "{} records, {} of them again with a load at the last address, {} with fewer than \
+             40 bytes of object; {} runs, {} entries, at most {} in a plan",
+            self.records, self.moved, self.short_objects, self.runs, self.entries, self.most
         );
+        println!("loads refused for their span:");
+        for (name, plans) in spans::PLACES.iter().zip(self.spans) {
+            println!("{plans:>12}  {name}");
+        }
         println!(
             "{} planners stepped to their ends, {} steps, {} of them beyond the end; \
              {} steps of second planners",
@@ -218,6 +234,9 @@ fn compare(
         return Err(text);
     }
     tally.count(&case.record, &whole.end);
+    if let Some(place) = spans::place(&case.record, &whole) {
+        tally.spans[place] += 1;
+    }
     for room in rooms(whole.end.entries, &mut random) {
         let mut expected = None;
         if room < 11 * whole.end.entries as usize {
@@ -541,10 +560,18 @@ fn compare_block(seed: u64, block: u64, count: u64, tally: &mut Tally) -> Option
     let mut buffers = Buffers::new();
     let mut beside = Planned::worked();
     for n in 0..count {
-        let case = Case::random(&mut random, mode);
-        match compare(&case, &beside, &mut buffers, tally) {
-            Ok(answer) => beside = Planned { case, answer },
-            Err(text) => return Some((block * BLOCK + n, explain(&case, &beside, &text))),
+        let mut next = Some(Case::random(&mut random, mode));
+        let mut first = true;
+        while let Some(case) = next.take() {
+            match compare(&case, &beside, &mut buffers, tally) {
+                Ok(answer) => beside = Planned { case, answer },
+                Err(text) => return Some((block * BLOCK + n, explain(&case, &beside, &text))),
+            }
+            if first && random.once_in(4) {
+                next = beside.case.moved(&beside.answer, &mut random);
+                tally.moved += u64::from(next.is_some());
+            }
+            first = false;
         }
     }
     None
@@ -578,6 +605,16 @@ fn compare_all(records: u64, seed: u64, threads: usize) -> (Tally, Option<(u64, 
         }
     });
     shared.into_inner().unwrap()
+}
+
+/// Places of a load that no record of so many showed refused for its span.
+fn unmet(tally: &Tally, records: u64) -> Option<String> {
+    let unmet = spans::PLACES.iter().zip(tally.spans);
+    let unmet: String = unmet
+        .filter(|&(_, plans)| plans == 0)
+        .map(|(name, _)| format!("no load was refused for its span here: {name}\n"))
+        .collect();
+    (records >= ALL_PLACES && !unmet.is_empty()).then_some(unmet)
 }
 
 /// The worked cases, the edge records and the longest plan; the first difference.
@@ -664,6 +701,9 @@ fn main() {
     tally.print();
     if let Some((n, text)) = found {
         finish(Some(format!("record number {n}\n{text}")));
+    }
+    if let Some(text) = unmet(&tally, records) {
+        finish(Some(text));
     }
     println!("no difference, {:.1} s", start.elapsed().as_secs_f64());
 }

@@ -3,6 +3,7 @@
 use crate::plan::BRANCH_NAMES;
 use crate::record::{Record, COPY, SCALED};
 use crate::run::Answer;
+use crate::spans;
 use std::collections::HashMap;
 use std::fmt::Write;
 
@@ -43,6 +44,7 @@ pub struct Coverage {
     hits: [u64; BRANCHES],
     plans: [u64; BRANCHES],
     refusals: [[u64; BRANCHES]; 2],
+    spans: [u64; spans::PLACES.len()],
 }
 
 impl Default for Coverage {
@@ -59,6 +61,7 @@ impl Default for Coverage {
             hits: [0; BRANCHES],
             plans: [0; BRANCHES],
             refusals: [[0; BRANCHES]; 2],
+            spans: [0; spans::PLACES.len()],
         }
     }
 }
@@ -82,6 +85,9 @@ impl Coverage {
         for branch in 0..BRANCHES {
             self.hits[branch] += notes.hits[branch];
             self.plans[branch] += u64::from(notes.hits[branch] > 0);
+        }
+        if let Some(place) = spans::place(record, &answer) {
+            self.spans[place] += 1;
         }
         if let Some(branch) = refused_at(record, &answer) {
             self.refusals[end.verdict as usize - 8][branch] += 1;
@@ -124,6 +130,10 @@ impl Coverage {
             )
             .unwrap();
         }
+        writeln!(text, "loads refused for their span:").unwrap();
+        for (name, plans) in spans::PLACES.iter().zip(self.spans) {
+            writeln!(text, "{plans:10}  {name}").unwrap();
+        }
         text
     }
 }
@@ -134,6 +144,7 @@ enum Feature {
     Verdict(usize, usize),
     Branch(usize, usize),
     RefusedAt(u64, usize),
+    RefusedSpan(usize),
     NoRemain,
     RemainAbove,
     LongWait(u64),
@@ -160,6 +171,7 @@ impl Sample {
         if let Some(branch) = refused_at(record, answer) {
             features.push(Feature::RefusedAt(answer.end.verdict, branch));
         }
+        features.extend(spans::place(record, answer).map(Feature::RefusedSpan));
         if notes.least_remain <= 0 {
             features.push(Feature::NoRemain);
         }

@@ -2,7 +2,7 @@
 
 use crate::diag::Diagnostic;
 use crate::hle::gbi::GbiConstants;
-use crate::hle::interp::{checked_span, Cmd, Ctx};
+use crate::hle::interp::{Cmd, Ctx};
 use crate::hle::mem::{
     decode_obj_bg, Command, GbiDataFormat, Matrix, MemoryError, MemoryErrorKind, ObjBg, ObjBgKind,
     Rdram,
@@ -20,7 +20,6 @@ use std::cell::Cell;
 pub struct CaseMemory<'a> {
     object: &'a [u8],
     image: u64,
-    span_check: bool,
     last_read: Cell<Option<(u64, u64)>>,
 }
 
@@ -52,9 +51,6 @@ impl Rdram for CaseMemory<'_> {
 
     /// Only the request is of interest; the texels are left out.
     fn read_bytes(&self, address: u64, length: usize) -> Result<Cow<'_, [u8]>, MemoryError> {
-        if self.span_check {
-            checked_span(address, length as u64)?;
-        }
         self.last_read.set(Some((address, length as u64)));
         Ok(Cow::Borrowed(&[]))
     }
@@ -94,11 +90,10 @@ impl Rdram for CaseMemory<'_> {
 }
 
 impl<'a> CaseMemory<'a> {
-    pub fn new(object: &'a [u8], image: u64, span_check: bool) -> Self {
+    pub fn new(object: &'a [u8], image: u64) -> Self {
         CaseMemory {
             object,
             image,
-            span_check,
             last_read: Cell::new(None),
         }
     }

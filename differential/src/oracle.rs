@@ -19,6 +19,7 @@ mod record;
 mod replay;
 mod run;
 mod scene;
+mod spans;
 
 pub use diag::{DiagKind, Diagnostic, MemoryAccess};
 pub use hle::mem::{MemoryError, MemoryErrorKind};
@@ -45,6 +46,7 @@ oracle --gen SEED COUNT MODE     records; MODE: mixed copy scaled thin whole
                                    corners damaged wild
 oracle --cases DIRECTORY         the worked cases as host/tests/cases has them: .bin, .txt and
                                    .bank files, list.txt and initial-bank.txt
+oracle --edges                   the edge records: their bytes, and what each is for
 oracle [options] --initial-bank  the bank that the options name
 oracle --replay DIRECTORY        the list of crates/replay, its bank and the Rust's answers
 oracle --replayed DIRECTORY      whether the answers there are still the Rust's
@@ -53,7 +55,6 @@ options: --bank             print the eight tiles after each plan
          --bank-seed N      start from the bank made from seed N, not from zeros
          --object-bytes N   give the planner only the first N bytes of the object
          --capacity WORDS   a plan buffer of so many words (verdict 10)
-         --spans            refuse loads that leave the address space, as read_bytes_exact does
 ";
 
 enum Task {
@@ -67,6 +68,7 @@ enum Task {
     Lines,
     Generate(u64, u64, generate::Mode),
     Cases(String),
+    Edges,
     InitialBank,
     Replay(String),
     Replayed(String),
@@ -102,7 +104,6 @@ fn asked() -> Asked {
                 settings.object_bytes = number::<usize>(arguments.next()).min(OBJECT_BYTES)
             }
             "--capacity" => settings.capacity = number(arguments.next()),
-            "--spans" => settings.span_check = true,
             "--records" => task = Task::Records(file()),
             "--digest" => task = Task::Digest(file()),
             "--coverage" => task = Task::Coverage(file()),
@@ -111,6 +112,7 @@ fn asked() -> Asked {
             "--claims" => task = Task::Claims(file()),
             "--lines" => task = Task::Lines,
             "--cases" => task = Task::Cases(file()),
+            "--edges" => task = Task::Edges,
             "--initial-bank" => task = Task::InitialBank,
             "--replay" => task = Task::Replay(file()),
             "--replayed" => task = Task::Replayed(file()),
@@ -214,6 +216,11 @@ fn perform(asked: Asked, out: &mut Output) {
             }
         }
         Task::Cases(directory) => write_cases(&directory),
+        Task::Edges => {
+            for (what, record) in edges::named() {
+                out.put(&format!("{} {what}\n", claims::hex(&record)));
+            }
+        }
         Task::InitialBank => {
             let mut text = String::new();
             print_bank(&settings.bank, &mut text);

@@ -32,6 +32,17 @@ pub struct Slices {
     pub hidden: i64,
 }
 
+/// The loads of a strip of `bg_1cyc`, in the order of `load_1cyc`.
+#[derive(Clone, Copy, Debug, Default, PartialEq, Eq, Hash)]
+pub enum Part {
+    #[default]
+    Whole,
+    Top,
+    SplitB,
+    SplitA,
+    Rest,
+}
+
 /// What only the noted text tells. The untouched text leaves all of it at its first value.
 #[derive(Clone, Debug, Default)]
 pub struct Notes {
@@ -48,6 +59,8 @@ pub struct Notes {
     pub hits: [u64; BRANCH_NAMES.len()],
     /// The branch counted last: where a refusal happened.
     pub last_hit: usize,
+    /// The load that was asked for last.
+    pub part: Part,
     /// For each rectangle kept, the strip's number k.
     pub strips: Vec<i64>,
 }
@@ -111,6 +124,8 @@ pub struct Plan {
     pub full: bool,
     /// The last call was a load that was refused: it has set its tile's size, which is no entry.
     pub refused_load: bool,
+    /// It was refused for its span, and not for its start.
+    pub refused_span: bool,
     pub bank_when_full: Option<Bank>,
     pub notes: Notes,
 }
@@ -128,6 +143,7 @@ impl Plan {
             calls: 0,
             full: false,
             refused_load: false,
+            refused_span: false,
             bank_when_full: None,
             notes: Notes {
                 least_remain: i64::MAX,
@@ -163,9 +179,10 @@ impl Plan {
         }
     }
 
-    /// The load in hand is refused.
-    pub fn refused(&mut self) {
+    /// The load in hand is refused; `started` says that its start has an address.
+    pub fn refused(&mut self, started: bool) {
         self.refused_load = true;
+        self.refused_span = started;
     }
 
     pub fn rectangle(&mut self, r: &TexRect, bank: &Bank) {

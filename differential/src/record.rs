@@ -22,6 +22,15 @@ pub struct Record {
 }
 
 impl Record {
+    /// The record of 122 hexadecimal digits.
+    pub fn from_hex(digits: &str) -> Self {
+        let mut bytes = [0; RECORD_BYTES];
+        for (n, byte) in bytes.iter_mut().enumerate() {
+            *byte = u8::from_str_radix(&digits[2 * n..2 * n + 2], 16).expect("digits");
+        }
+        Record::from_bytes(&bytes)
+    }
+
     pub fn from_bytes(bytes: &[u8; RECORD_BYTES]) -> Self {
         let half = |at: usize| u16::from_be_bytes(bytes[at..at + 2].try_into().unwrap());
         Record {

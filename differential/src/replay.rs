@@ -60,7 +60,6 @@ impl Item {
             bank: initial_bank(Some(1)),
             object_bytes: self.object_bytes.into(),
             capacity,
-            span_check: false,
         };
         run(&self.record, &settings, Sink::Nothing)
     }
@@ -88,13 +87,7 @@ const RARE: [&str; 2] = [
 ];
 
 fn rare() -> impl Iterator<Item = Record> {
-    RARE.iter().map(|digits| {
-        let mut bytes = [0; RECORD_BYTES];
-        for (n, byte) in bytes.iter_mut().enumerate() {
-            *byte = u8::from_str_radix(&digits[2 * n..2 * n + 2], 16).expect("digits");
-        }
-        Record::from_bytes(&bytes)
-    })
+    RARE.iter().map(|digits| Record::from_hex(digits))
 }
 
 /// A few small records for each verdict, branch and place of refusal that is met.

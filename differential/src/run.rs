@@ -15,8 +15,6 @@ pub struct Settings {
     pub object_bytes: usize,
     /// Words of the plan buffer.
     pub capacity: u64,
-    /// Refuse a load whose span leaves the address space, as `read_bytes_exact` does.
-    pub span_check: bool,
 }
 
 impl Default for Settings {
@@ -25,7 +23,6 @@ impl Default for Settings {
             bank: Bank::default(),
             object_bytes: OBJECT_BYTES,
             capacity: u64::MAX,
-            span_check: false,
         }
     }
 }
@@ -48,7 +45,7 @@ struct Outcome {
 
 fn memory<'r>(record: &'r Record, settings: &Settings) -> CaseMemory<'r> {
     let object = &record.object[..settings.object_bytes];
-    CaseMemory::new(object, record.address, settings.span_check)
+    CaseMemory::new(object, record.address)
 }
 
 fn call<'r>(planner: Planner<'r>, record: &'r Record, settings: &Settings, sink: Sink) -> Outcome {
@@ -74,6 +71,7 @@ fn assert_same(untouched: &Outcome, noted: &Outcome) {
     assert_eq!(untouched.plan.tile_words, noted.plan.tile_words);
     assert_eq!(untouched.plan.calls, noted.plan.calls);
     assert_eq!(untouched.plan.full, noted.plan.full);
+    assert_eq!(untouched.plan.refused_span, noted.plan.refused_span);
     assert_eq!(untouched.bank, noted.bank);
 }
 

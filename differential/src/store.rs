@@ -41,7 +41,7 @@ impl Plan {
         self.store(entry::load(index, bounds, &write, read));
     }
 
-    pub fn refused(&mut self) {}
+    pub fn refused(&mut self, _: bool) {}
 
     pub fn rectangle(&mut self, r: &TexRect, _: &Bank) {
         self.store(entry::rectangle(r, 0));

@@ -83,7 +83,7 @@ fn bg(opcode: u8, object: &[u8], scissor: Scissor, address: u64, cx: &mut Ctx) -
         cx.rdp.tiles = tiles;
         cx.entry(entry);
     }
-    // The same tiles, but for a refused copy load, which has set tile 7's bounds.
+    // The same tiles, but for a refused load, which has set tile 7's bounds.
     cx.rdp.tiles = after;
     let result = plan.result();
     cx.plan = buffer;

@@ -68,8 +68,8 @@ impl<'a> Plan<'a> {
     ///
     /// A load and a rectangle are meant for the tiles as they are there, and not for those that the
     /// whole plan leaves. After the last entry the bank is the one that the plan left, with one
-    /// exception: a copy load refused by [`Verdict::Address`](crate::Verdict::Address) has already
-    /// set the bounds of tile 7, which is no entry. A host that stops in the middle keeps the bank
+    /// exception: a load refused by [`Verdict::Address`](crate::Verdict::Address) has already set
+    /// the bounds of tile 7, which is no entry. A host that stops in the middle keeps the bank
     /// of the last entry that it has done; one that goes through all of them takes the bank that
     /// the plan left.
     #[must_use]

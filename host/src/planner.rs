@@ -83,7 +83,7 @@ impl Planner {
     }
 
     /// The bank after the last entry that was given: the one that this entry is meant for. At the
-    /// end it is the one that a run leaves: a copy load refused by
+    /// end it is the one that a run leaves: a load refused by
     /// [`Verdict::Address`](crate::Verdict::Address) has set the bounds of tile 7, though there is
     /// no entry of it.
     #[must_use]

@@ -28,7 +28,7 @@ pub enum Verdict {
     TooBig = 7,
     /// A part of a scaled strip has no rows, no width or no place.
     Piece = 8,
-    /// An address leaves the 64-bit address space.
+    /// An address, or the end of a load, leaves the 64-bit address space.
     Address = 9,
     /// The plan buffer has no room for the next entry.
     Full = 10,
@@ -82,7 +82,7 @@ impl Verdict {
             Verdict::Piece => {
                 "A part of a scaled strip has no rows, no width or no place in texture memory."
             }
-            Verdict::Address => "An image address leaves the 64-bit address space.",
+            Verdict::Address => "An image address, or the end of a load, leaves the 64-bit address space.",
             Verdict::Full => "The plan buffer has no room for the next entry.",
         }
     }

@@ -2,7 +2,7 @@
 
 mod records;
 
-use records::{bank, cases, largest, record, refused_load, request, text};
+use records::{bank, cases, largest, record, refused_loads, request, text};
 use visorlongan::{count, run, Bank, Buffer, Entry, Request, Scissor, Verdict, ENTRY_WORDS};
 
 #[test]
@@ -55,16 +55,17 @@ fn steps_have_the_bank_of_each_entry() {
     }
 }
 
-/// A copy load that is refused by its address has set tile 7's bounds, which is no entry.
+/// A load that is refused by its address has set tile 7's bounds, which is no entry.
 #[test]
-fn a_refused_copy_load_has_set_its_size() {
-    let record = refused_load();
-    let (mut buffer, mut after) = (Buffer::new(), Bank::default());
-    let plan = buffer.plan(&record.request(), &mut after);
-    assert_eq!((plan.end.verdict, plan.end.entries), (Verdict::Address, 4));
-    let (entry, tiles) = plan.steps(Bank::default()).last().expect("four entries");
-    assert!(matches!(entry, Entry::Size(_)));
-    assert_eq!((tiles.tiles[7].lrs, after.tiles[7].lrs), (0, 60));
+fn a_refused_load_has_set_its_size() {
+    for (record, right) in refused_loads() {
+        let (mut buffer, mut after) = (Buffer::new(), Bank::default());
+        let plan = buffer.plan(&record.request(), &mut after);
+        assert_eq!((plan.end.verdict, plan.end.entries), (Verdict::Address, 4));
+        let (entry, tiles) = plan.steps(Bank::default()).last().expect("four entries");
+        assert!(matches!(entry, Entry::Size(_) | Entry::Image(_)));
+        assert_eq!((tiles.tiles[7].lrs, after.tiles[7].lrs), (0, right));
+    }
 }
 
 #[test]

@@ -9,7 +9,7 @@ mod records;
 
 use fast3d::{bg_1cyc, bg_copy, bg_frame, Ctx};
 use random::Random;
-use records::{bank, cases, record, refused_load, request, text};
+use records::{bank, cases, record, refused_loads, request, text};
 use visorlongan::{Bank, Buffer, End, Entry, Planner, Record, Request, Verdict, BG_1CYC, BG_COPY};
 
 /// Holds a planner to the run. A buffer's limit cuts the run's plan and not the planner's, which is
@@ -68,17 +68,18 @@ fn random_requests_are_the_run_s() {
     assert!(met.iter().all(|count| *count > 0), "{met:?}");
 }
 
-/// A copy load that is refused by its address has set tile 7's bounds, which is no entry.
+/// A load that is refused by its address has set tile 7's bounds, which is no entry.
 #[test]
-fn a_refused_copy_load_has_set_its_size() {
-    let record = refused_load();
-    let mut planner = Planner::new(&record.request());
-    assert_eq!(planner.by_ref().take(4).count(), 4);
-    assert_eq!((planner.end(), planner.bank().tiles[7].lrs), (None, 0));
-    assert_eq!((planner.next(), planner.bank().tiles[7].lrs), (None, 60));
-    let end = planner.end().expect("the end");
-    assert_eq!((end.verdict, end.entries), (Verdict::Address, 4));
-    held(&record.request(), Bank::default(), &mut Buffer::new());
+fn a_refused_load_has_set_its_size() {
+    for (record, right) in refused_loads() {
+        let mut planner = Planner::new(&record.request());
+        assert_eq!(planner.by_ref().take(4).count(), 4);
+        assert_eq!((planner.end(), planner.bank().tiles[7].lrs), (None, 0));
+        assert_eq!((planner.next(), planner.bank().tiles[7].lrs), (None, right));
+        let end = planner.end().expect("the end");
+        assert_eq!((end.verdict, end.entries), (Verdict::Address, 4));
+        held(&record.request(), Bank::default(), &mut Buffer::new());
+    }
 }
 
 #[test]
@@ -172,7 +173,8 @@ fn another_bank_between_two_steps() {
 /// The example's frames draw what its whole plans draw, whatever a frame has time for.
 #[test]
 fn frames_draw_the_same_pixels() {
-    for record in [refused_load(), record("A"), record("C"), record("E")] {
+    let refused = refused_loads().map(|(record, _)| record);
+    for record in refused.into_iter().chain(["A", "C", "E"].map(record)) {
         let request = record.request();
         let (object, scissor, address) = (request.object, request.scissor, request.address);
         let mut whole = Ctx::new(320, 240);

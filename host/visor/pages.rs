@@ -188,14 +188,15 @@ pub const ALL: &[Page] = &[
     Page {
         verdict: Verdict::Address,
         name: "address",
-        when: "An address that the plan comes to lies below 0, or at 2^64 or above.",
+        when: "An address that the plan comes to lies below 0, or at 2^64 or above; or a load's \
+               start and its length add up to 2^64 or more.",
         statement: "6.4, 8.8",
-        left: "The entries before it stand, and the tiles are as after them; a copy load that is \
+        left: "The entries before it stand, and the tiles are as after them; a load that is \
                refused has set the bounds of tile 7 already.",
         look: &["address", "image_x", "image_y", "image_y_orig", "image_h"],
         right: "The address of the image's first byte, resolved from the object's pointer. Near 0 \
                 it is an offset or a null pointer: a strip that wraps may read one row before the \
-                image.",
+                image. Near 2^64 the image reaches beyond the last address.",
         example: "visor plan J.bin",
         seen: "Case I at address 0.",
     },

@@ -121,7 +121,7 @@ unfoldable pub tile7Next : Bool → Place → CopyNext
 tile7Next true p = next.TooBig
 tile7Next false p = next.Entry (tileEntry p 7 0 0) stage.Tile0 p
 
--- D verdict 9 "a copy load refused by 9 has already set tile 7's size"
+-- D verdict 9 "a load refused by 9 has already set tile 7's size"
 unfoldable pub loadNext : LoadRequest → Area → Place → CopyNext
 loadNext (request.Load words rows stride start length) a p = next.Entry (entry.Load 7 a.uls a.ult a.lrs a.lrt words rows stride start length) (stage.Strip due.Rect) p
 loadNext request.Overflow a p = next.Overflow (entry.Size 7 a.uls a.ult a.lrs a.lrt)

@@ -1,6 +1,6 @@
 -- What the count of a copy plan has come to, at a row and at a cell: the numbers so far, and the end of what is still to come.
 -- Assumes nothing.
-use Rattle.std.specs.Prelude.{◌≡◌, refl, Bool, true, false, not, ℕ, ◌+◌, ◌*◌, ◌/◌, ◌%◌, ◌^◌, ◌≤◌, ◌<◌, max, ltb, length}
+use Rattle.std.specs.Prelude.{◌≡◌, refl, Bool, true, false, not, ℕ, ◌+◌, ◌-◌, ◌*◌, ◌/◌, ◌%◌, ◌^◌, ◌≤◌, ◌<◌, max, length}
 use Rattle.std.proofs.Common.{sym, ap, ◌∙◌, arith, lt-ltb, le-ltb}
 use Rattle.std.proofs.Math.Nat.{mul_comm}
 use Rattle.signed.specs.Floor.{modulo}
@@ -8,7 +8,7 @@ use Rattle.object.specs.declared.types.Verdict.{Verdict}
 use Rattle.object.specs.declared.types.Verdict.TheVariants as verdict
 use Rattle.load_tile.specs.declared.load.LoadRequest.{LoadRequest}
 use Rattle.load_tile.specs.declared.load.LoadRequest.TheVariants as request
-use Rattle.load_tile.specs.Load.{stride_of, offset_of, rows_of, requestOf}
+use Rattle.load_tile.specs.Load.{words_of, stride_of, offset_of, rows_of, granted, requestOf}
 use Rattle.plan.specs.declared.types.Copy.{Copy}
 use Rattle.plan.specs.declared.types.End.{End}
 use Rattle.plan.specs.declared.types.Strip.{Strip}
@@ -25,7 +25,7 @@ use Rattle.copy.specs.declared.types.Place.{Place}
 use Rattle.strips.specs.Strip.{Less, StripIs, Rows, column-is}
 use Rattle.copy.specs.Walk.{placeAt, SoundPlace, imageEntry, tileEntry, tile0Entry, sizeEntry, areaOf, requestIn, rectEntry, tooBig}
 use Rattle.copy.specs.Coming.{restFrom, rest_of, dueTail, loadTail, stripTail, tailOf, too-big, fits, right-tail, row-rest, below-tail}
-use Rattle.counting.specs.Count.{wrapColumn, bytes_of, refusedAt}
+use Rattle.counting.specs.Count.{wrapColumn, bytes_of, wordsIn, refusedAt}
 use Rattle.counting.proofs.Wrap.{strip-wrapped, row_below}
 
 -- the end of what is to come, where tile 7 has this line
@@ -60,34 +60,52 @@ not-not : (t : Bool) → not (not t) ≡ t
 not-not true = refl
 not-not false = refl
 
--- in a sound frame no bound of a load is cut to 16 bits, and neither is the image's width field: so it starts at its column and row, and has the strip's rows
+-- in a sound frame no bound of a load is cut to 16 bits, and neither is the image's width field: so it starts at its column and row, and has the strip's columns and rows
 module _ (p : Place) (s : SoundPlace p) where
-  offset-is : offset_of p.copy.siz (stride_of p.copy.siz (field p.copy)) (areaOf p).uls (areaOf p).ult
-      ≡ bytes_of p.copy.siz p.strip.aligned_left + bytes_of p.copy.siz p.copy.image_width * p.sy
-  offset-is =
+  abbrev start : ℕ
+  start = p.copy.address + offset_of p.copy.siz (stride_of p.copy.siz (field p.copy)) (areaOf p).uls (areaOf p).ult
+
+  abbrev span : ℕ
+  span = (rows_of (areaOf p).ult (areaOf p).lrt - 1) * stride_of p.copy.siz (field p.copy) + 8 * words_of p.copy.siz (areaOf p).uls (areaOf p).lrs
+
+  row-is : stride_of p.copy.siz (field p.copy) ≡ bytes_of p.copy.siz p.copy.image_width
+  row-is =
+      let c = s.copy in
+      let width : field p.copy + 1 ≡ p.copy.image_width = omega arith in
+      rw width
+
+  start_is : start ≡ p.copy.address + (bytes_of p.copy.siz p.strip.aligned_left + bytes_of p.copy.siz p.copy.image_width * p.sy)
+  start_is =
       let c = s.copy in
       let b = s.strip in
       let r = s.rows in
       let left : bound p.strip.aligned_left / 4 ≡ p.strip.aligned_left = omega arith in
       let row : bound p.sy / 4 ≡ p.sy = omega arith in
-      let width : field p.copy + 1 ≡ p.copy.image_width = omega arith in
-      rw (left, row, width)
+      rw (left, row, row-is)
 
-  starts_is : ltb (p.copy.address + offset_of p.copy.siz (stride_of p.copy.siz (field p.copy)) (areaOf p).uls (areaOf p).ult) (2 ^ 64) ≡ not (refusedAt p.copy p.strip.aligned_left p.sy)
-  starts_is = ap (λ (n : ℕ). ltb (p.copy.address + n) (2 ^ 64)) offset-is ∙ sym (not-not _)
-
-  load-refused : refusedAt p.copy p.strip.aligned_left p.sy ≡ true → requestIn p.copy (areaOf p) ≡ request.Overflow
-  unfolding requestOf
-  load-refused g = let e = starts_is ∙ ap not g in rw (e, requestOf)
-
-  load-rows : refusedAt p.copy p.strip.aligned_left p.sy ≡ false → LoadsRows (requestIn p.copy (areaOf p)) p.strip_height
-  unfolding requestOf
-  load-rows g =
+  height_is : rows_of (areaOf p).ult (areaOf p).lrt ≡ p.strip_height
+  height_is =
       let c = s.copy in
       let r = s.rows in
-      let h : rows_of (areaOf p).ult (areaOf p).lrt ≡ p.strip_height = omega arith in
-      let e = starts_is ∙ ap not g in
-      rw (e, requestOf) h
+      omega arith
+
+  span_is : span ≡ (p.strip_height - 1) * bytes_of p.copy.siz p.copy.image_width + 8 * wordsIn p.copy.siz p.strip.load_width
+  span_is =
+      let c = s.copy in
+      let b = s.strip in
+      let columns : (areaOf p).lrs / 4 - (areaOf p).uls / 4 ≡ p.strip.load_width - 1 = omega arith in
+      rw (height_is, row-is, columns)
+
+  granted_is : granted start span ≡ not (refusedAt p.copy p.strip p.sy p.strip_height)
+  granted_is = rw (start_is, span_is) (sym (not-not _))
+
+  load-refused : refusedAt p.copy p.strip p.sy p.strip_height ≡ true → requestIn p.copy (areaOf p) ≡ request.Overflow
+  unfolding requestOf
+  load-refused g = let e = granted_is ∙ ap not g in rw (e, requestOf)
+
+  load-rows : refusedAt p.copy p.strip p.sy p.strip_height ≡ false → LoadsRows (requestIn p.copy (areaOf p)) p.strip_height
+  unfolding requestOf
+  load-rows g = let e = granted_is ∙ ap not g in rw (e, requestOf) height_is
 
 -- ---- one strip
 
@@ -122,13 +140,13 @@ unfolding loadOut rectangles wordsFrom
 cut p l = refl
 
 module _ (p : Place) (s : SoundPlace p) (l : ℕ) (t : tooBig p ≡ false) where
-  whole : refusedAt p.copy p.strip.aligned_left p.sy ≡ false → endFrom l (stripTail p) ≡ plus 5 1 (p.strip.line * p.strip_height) (endFrom p.strip.line (rest_of p))
+  whole : refusedAt p.copy p.strip p.sy p.strip_height ≡ false → endFrom l (stripTail p) ≡ plus 5 1 (p.strip.line * p.strip_height) (endFrom p.strip.line (rest_of p))
   whole g =
       let b = s.strip in
       let f : p.strip.line % 2 ^ 16 ≡ p.strip.line = omega arith in
       ap (endFrom l) (strip-with p t) ∙ drawn p l (requestIn p.copy (areaOf p)) (load-rows p s g) f
 
-  broken : refusedAt p.copy p.strip.aligned_left p.sy ≡ true → endFrom l (stripTail p) ≡ record { verdict = verdict.Address; entries = 3; rectangles = 0; words = 0 }
+  broken : refusedAt p.copy p.strip p.sy p.strip_height ≡ true → endFrom l (stripTail p) ≡ record { verdict = verdict.Address; entries = 3; rectangles = 0; words = 0 }
   broken g = ap (endFrom l) (strip-with p t ∙ ap (stripWith p) (load-refused p s g)) ∙ cut p l
 
 -- ---- the two loops
@@ -228,11 +246,11 @@ module _ {c : Copy} {y sy h entries rectangles words : ℕ} {v : Verdict} {x sx 
     room : tooBig place ≡ false
     room = le-ltb c.capacity (strip.line * h) t
 
-    pub strip-refused : refusedAt c strip.aligned_left sy ≡ true
+    pub strip-refused : refusedAt c strip sy h ≡ true
         → record { verdict = verdict.Address; entries = entries + 3; rectangles = rectangles; words = words } ≡ end_of (planOut (copyPlan c))
     strip-refused g = sym (at-strip ∙ ap (plus entries rectangles words) (broken place sound a.at.line room g) ∙ same verdict.Address refl (omega arith) (omega arith))
 
-    pub strip-counted : {wrap most : ℕ} → wrap ≡ wrapColumn c → refusedAt c strip.aligned_left sy ≡ false → most ≡ max words (strip.line * h)
+    pub strip-counted : {wrap most : ℕ} → wrap ≡ wrapColumn c → refusedAt c strip sy h ≡ false → most ≡ max words (strip.line * h)
         → AtColumn c y sy h (entries + 5) (rectangles + 1) most v (x + strip.strip_width) wrap
     strip-counted w g e =
         let b = here.bounds in

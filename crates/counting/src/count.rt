@@ -5,10 +5,10 @@ ghost use Rattle.plan.specs.Copy.{copyPlan};
 ghost use Rattle.plan.specs.Run.{end_of};
 ghost use Rattle.plan.specs.Sound.{SoundCopy};
 ghost use Rattle.strips.specs.Frame.{AtMost};
-ghost use Rattle.counting.specs.Count.{wrapColumn, bytes_of, refusedAt};
+ghost use Rattle.counting.specs.Count.{wrapColumn, bytes_of, wordsIn, refusedAt};
 
 use object::Verdict;
-use plan::{Copy, End};
+use plan::{Copy, End, Strip};
 use strips::{column_at, strip_from, strip_height, strip_row};
 
 // Image row sy, or the first where sy is past the last.
@@ -32,14 +32,30 @@ fn bytes_of(siz: u64, texels: u64) -> u64
     }
 }
 
-// The load from this column and row starts past the last address.
-fn refused(c: Copy, aligned_left: u64, sy: u64) -> bool
-    requires sound_copy { SoundCopy c }
-    requires aligned_left_bound { (aligned_left ≤ 16383) × (sy ≤ 16383) }
-    ensures { result ≡ refusedAt c aligned_left sy }
+// The words of a row of a load of that many columns.
+fn words_in(siz: u64, columns: u64) -> u64
+    requires { (siz ≤ 3) × ((1 ≤ columns) × (columns ≤ 1038)) }
+    ensures { AtMost (wordsIn siz columns) 1038 result }
 {
-    let offset = bytes_of(c.siz, aligned_left) + bytes_of(c.siz, c.image_width) * sy;
-    0xffff_ffff_ffff_ffff - c.address < offset
+    match siz {
+        0 => (columns - 1) / 16 + 1,
+        1 => (columns - 1) / 8 + 1,
+        2 => (columns - 1) / 4 + 1,
+        _ => (columns - 1) / 2 + 1,
+    }
+}
+
+// The load of the strip from this row would reach the end of the address space.
+fn refused(c: Copy, s: Strip, sy: u64, strip_height: u64) -> bool
+    requires sound_copy { SoundCopy c }
+    requires columns { (s.aligned_left ≤ 16383) × ((1 ≤ s.load_width) × (s.load_width ≤ 1038)) }
+    requires rows { (sy ≤ 16383) × ((1 ≤ strip_height) × (strip_height ≤ 1024)) }
+    ensures { result ≡ refusedAt c s sy strip_height }
+{
+    let row = bytes_of(c.siz, c.image_width);
+    let offset = bytes_of(c.siz, s.aligned_left) + row * sy;
+    let length = (strip_height - 1) * row + 8 * words_in(c.siz, s.load_width);
+    !load_tile::granted(c.address, offset, length)
 }
 
 // The row walk and the column walk: the first strip that is refused ends both at once. Every strip but the first of its row starts at image column `wrap`.
@@ -66,7 +82,7 @@ fn count_strips(c: Copy, wrap: u64) -> End
                 verdict = Verdict::TooBig;
                 break 'rows;
             }
-            if refused(c, strip.aligned_left, sy) {
+            if refused(c, strip, sy, strip_height) {
                 entries += 3;
                 verdict = Verdict::Address;
                 break 'rows;

@@ -137,7 +137,7 @@ entry-shows (entry.Load i uls ult lrs lrt words rows stride start len) h =
             eight ult (omega (arith, h.1.1.0)),
             (
               eight lrs (omega (arith, h.1.1.1.0)),
-              (eight lrt (omega (arith, k.0)), (eight words (omega (arith, k.1.0)), (eight rows (omega (arith, k.1.1.0)), (eight stride (omega (arith, k.1.1.1.0)), (widely start k.1.1.1.1.0, (widely len k.1.1.1.1.1, tt)))))),
+              (eight lrt (omega (arith, k.0)), (eight words (omega (arith, k.1.0)), (eight rows (omega (arith, k.1.1.0)), (eight stride (omega (arith, k.1.1.1.0)), (widely start (omega (arith, k.1.1.1.1)), (widely len (omega (arith, k.1.1.1.1)), tt)))))),
             ),
           ),
         ),

@@ -25,9 +25,9 @@ stride_of siz width = (width + 1) * 2 ^ siz / 2
 abbrev pub offset_of : (siz stride uls ult : ℕ) → ℕ
 offset_of siz stride uls ult = uls / 4 * 2 ^ siz / 2 + stride * (ult / 4)
 
--- D "Only an overflowing start is refused here": whether a load of these bytes is granted
+-- D "a request is given only if start plus length stays within 2^64 − 1": whether a load of these bytes is granted
 abbrev pub granted : (start length : ℕ) → Bool
-granted start length = ltb start (2 ^ 64)
+granted start length = ltb (start + length) (2 ^ 64)
 
 abbrev pub pickRequest : Bool → LoadRequest → LoadRequest → LoadRequest
 pickRequest true a b = a

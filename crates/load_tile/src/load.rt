@@ -1,6 +1,6 @@
 // The load request: what `load_tile_typed` asks of the host.
-ghost use Rattle.std.specs.Prelude.{◌≡◌, ◌^◌, ◌≤◌, ◌-◌};
-ghost use Rattle.load_tile.specs.Load.{AtMost, words_of, rows_of, stride_of, offset_of, requestOf};
+ghost use Rattle.std.specs.Prelude.{◌≡◌, ◌+◌, ◌^◌, ◌≤◌, ◌-◌};
+ghost use Rattle.load_tile.specs.Load.{AtMost, words_of, rows_of, stride_of, offset_of, granted, requestOf};
 
 #[derive(Clone, Copy)]
 pub enum LoadRequest {
@@ -11,7 +11,7 @@ pub enum LoadRequest {
         start: u64,
         length: u64,
     },
-    // The start lies past the last address.
+    // The start, or start plus length, is 2^64 or more.
     Overflow,
 }
 
@@ -63,6 +63,16 @@ fn offset(siz: u8, stride: u64, uls: u16, ult: u16) -> u64
     (uls / 4) as u64 * power(siz) / 2 + stride * ((ult / 4) as u64)
 }
 
+// Whether a load's bytes all have addresses: its start is tested, then its span, as the Rust's `checked_span` and `read_bytes_exact` do.
+pub fn granted(address: u64, offset: u64, length: u64) -> bool
+    ensures { result ≡ granted (address + offset) length }
+{
+    if 0xffff_ffff_ffff_ffff - address < offset {
+        return false;
+    }
+    length <= 0xffff_ffff_ffff_ffff - (address + offset)
+}
+
 // The request of a load, from the texture image's siz, width field and address and the tile's bounds.
 pub fn load_request(
     siz: u8,
@@ -80,13 +90,14 @@ pub fn load_request(
     let rows = row_count(ult, lrt);
     let stride = bytes_per_row(siz, width);
     let offset = offset(siz, stride, uls, ult);
-    if offset <= 0xffff_ffff_ffff_ffff - address {
+    let length = (rows - 1) * stride + 8 * words;
+    if granted(address, offset, length) {
         LoadRequest::Load {
             words,
             rows,
             stride,
             start: address + offset,
-            length: (rows - 1) * stride + 8 * words,
+            length,
         }
     } else {
         LoadRequest::Overflow

@@ -1,7 +1,7 @@
 -- The numbers of a plan's entries are small, and its entries few: what a host's column, or its own field, may count on. The ranges are those of docs/SPECIFICATION.md, sections 9 and 10.
 -- Assumes nothing.
 use Rattle.std.specs.Prelude.{◌≡◌, refl, Bool, true, false, List, [], ◌∷◌, ◌++◌, ℕ, zero, suc, ◌+◌, ◌-◌, ◌*◌, ◌^◌, ◌≤◌, ◌<◌, ltb, ℤ, pos, negsuc, neg_ℤ, ◌+ℤ◌, length, ◌≤ℤ◌}
-use Rattle.std.proofs.Common.{arith, mul-le-mul, length-append, SFits, ltb-true}
+use Rattle.std.proofs.Common.{arith, length-append, SFits, ltb-true}
 use Rattle.std.specs.Int.Signed.{lt_z}
 use Rattle.std.specs.Int.{w16}
 use mir.ValLaws.{to_z-Fits}
@@ -30,7 +30,7 @@ Small (entry.Tile i fmt siz line tmem palette cms cmt masks maskt) =
     (i ≤ 7) × ((fmt ≤ 255) × ((siz ≤ 255) × ((line ≤ 1039) × ((tmem ≤ 65535) × ((palette ≤ 255) × ((cms ≤ 255) × ((cmt ≤ 255) × ((masks ≤ 255) × (maskt ≤ 255)))))))))
 Small (entry.Size i uls ult lrs lrt) = (i ≤ 7) × ((uls ≤ 65535) × ((ult ≤ 65535) × ((lrs ≤ 65535) × (lrt ≤ 65535))))
 Small (entry.Load i uls ult lrs lrt words rows stride start len) =
-    (i ≤ 7) × ((uls ≤ 65535) × ((ult ≤ 65535) × ((lrs ≤ 65535) × ((lrt ≤ 65535) × ((words ≤ 16384) × ((rows ≤ 16384) × ((stride ≤ 524288) × ((start < 2 ^ 64) × (len < 2 ^ 64)))))))))
+    (i ≤ 7) × ((uls ≤ 65535) × ((ult ≤ 65535) × ((lrs ≤ 65535) × ((lrt ≤ 65535) × ((words ≤ 16384) × ((rows ≤ 16384) × ((stride ≤ 524288) × (start + len < 2 ^ 64))))))))
 Small (entry.Rect i ulx uly lrx lry uls ult dsdx dtdy row) =
     ((i ≤ 7) × ((ulx ≤ 65535) × ((uly ≤ 65535) × ((lrx ≤ 65535) × ((lry ≤ 65535) × (row ≤ 65535)))))) × (Signed16 uls × (Signed16 ult × (Signed16 dsdx × Signed16 dtdy)))
 
@@ -127,9 +127,8 @@ few-load siz width address i uls ult lrs lrt s w k b =
     let rows = rows_of ult lrt in
     let stride = stride_of siz width in
     let start = address + offset_of siz stride uls ult in
+    let span = (rows - 1) * stride + 8 * words in
     let a : words ≤ 16384 = load-words siz uls lrs s b.1.1.0 in
     let c : rows ≤ 16384 = omega (arith, b.1.1.1) in
     let d : stride ≤ 524288 = load-stride siz width s w in
-    let p : (rows - 1) * stride ≤ 16384 * 524288 = mul-le-mul {n₂ = 16384} (omega arith) d in
-    few-request (granted start ((rows - 1) * stride + 8 * words)) words rows stride start ((rows - 1) * stride + 8 * words) i uls ult lrs lrt (λ e.
-    (k, (b.0, (b.1.0, (b.1.1.0, (b.1.1.1, (a, (c, (d, (ltb-true start (2 ^ 64) e, omega arith))))))))))
+    few-request (granted start span) words rows stride start span i uls ult lrs lrt (λ e. (k, (b.0, (b.1.0, (b.1.1.0, (b.1.1.1, (a, (c, (d, ltb-true (start + span) (2 ^ 64) e)))))))))

@@ -45,12 +45,24 @@ pub fn request(record: &Record, object_bytes: usize) -> Request<'_> {
     }
 }
 
-/// Case L at an address that its first load leaves the address space from.
-pub fn refused_load() -> Record {
-    let mut bytes = *record("L").as_bytes();
-    bytes[1] = 255;
-    bytes[53..].fill(255);
+/// A case with its image at another address.
+fn at(name: &str, address: u64) -> Record {
+    let mut bytes = *record(name).as_bytes();
+    bytes[53..].copy_from_slice(&address.to_be_bytes());
     Record::from(bytes)
+}
+
+/// Loads that are refused after four entries, each with the right bound of tile 7 that it has set: a copy load that starts
+/// beyond the last address, one that ends at 2^64, and a scaled one that does.
+pub fn refused_loads() -> [(Record, u16); 3] {
+    let mut bytes = *at("L", u64::MAX).as_bytes();
+    bytes[1] = 255;
+    let beyond = Record::from(bytes);
+    let [copied, scaled] = [
+        at("L", 64u64.wrapping_neg()),
+        at("E", 3_848u64.wrapping_neg()),
+    ];
+    [(beyond, 60), (copied, 60), (scaled, 1_280)]
 }
 
 /// The longest plan there is: an image of one cell under a frame of 1,023 by 1,023 cells.
