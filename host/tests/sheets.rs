@@ -226,7 +226,7 @@ fn refused_plans_show_what_stands() {
     assert_eq!(output.status.code(), Some(1));
     let words = said(&output);
     assert!(
-        words.contains("It stopped in strip 28, whose first pixel would be 0, 162"),
+        words.contains("It stopped in strip 27, whose first pixel would be 0, 156"),
         "{words}"
     );
     let sheet = pixels(&std::fs::read(folder.join("nine.png")).unwrap());
