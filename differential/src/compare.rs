@@ -9,8 +9,8 @@
 //! random bank and is run into a buffer with room for all, into one that is too short by 0 to 11
 //! words and, now and then, into one of any length and one of no words. Then it is stepped to its
 //! end and beyond, with the planner of the record before it stepped in between; and its rectangles
-//! are measured into buffers of three lengths. One in four of those with a load comes again, with its image so
-//! near the last address that one of its loads ends there.
+//! are measured into buffers of three lengths. One in four of those with a load comes again, with
+//! its image so near the last address that one of its loads ends there.
 
 #![allow(dead_code, unused_imports, unexpected_cfgs)]
 

@@ -1,4 +1,5 @@
-//! Loads that are refused because their bytes reach beyond the last address, and records that have such loads.
+//! Loads that are refused because their bytes reach the end of the address space, and records that
+//! have such loads.
 
 use crate::entry::LOAD;
 use crate::plan::Part;
@@ -34,8 +35,8 @@ pub fn place(record: &Record, answer: &Answer) -> Option<usize> {
     })
 }
 
-/// The same record with its image elsewhere: a load that ends further on than those before it now ends one byte before
-/// 2^64, at 2^64, or one beyond. Nothing where the plan has no such load.
+/// The same record with its image elsewhere: a load that ends further on than those before it now
+/// ends one byte before 2^64, at 2^64, or one beyond. Nothing where the plan has no such load.
 pub fn moved(record: &Record, answer: &Answer, random: &mut Random) -> Option<Record> {
     let mut furthest = 0;
     let mut reaches = Vec::new();

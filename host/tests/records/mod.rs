@@ -52,9 +52,10 @@ fn at(name: &str, address: u64) -> Record {
     Record::from(bytes)
 }
 
-/// Loads that are refused after four entries, each with the right bound of tile 7 that it has set: a copy load that starts
-/// beyond the last address, one that ends at 2^64, and a scaled one that does.
+/// Loads that are refused after four entries, each with the right bound of tile 7 that it has set:
+/// a copy load that starts beyond 2^64, one that ends there, and a scaled one that does.
 pub fn refused_loads() -> [(Record, u16); 3] {
+    // From column 7 on: the start is 8 bytes after the image's.
     let mut bytes = *at("L", u64::MAX).as_bytes();
     bytes[1] = 255;
     let beyond = Record::from(bytes);
