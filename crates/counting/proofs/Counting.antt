@@ -8,7 +8,7 @@ use Rattle.object.specs.declared.types.Verdict.{Verdict}
 use Rattle.object.specs.declared.types.Verdict.TheVariants as verdict
 use Rattle.load_tile.specs.declared.load.LoadRequest.{LoadRequest}
 use Rattle.load_tile.specs.declared.load.LoadRequest.TheVariants as request
-use Rattle.load_tile.specs.Load.{words_of, stride_of, offset_of, rows_of, granted, requestOf}
+use Rattle.load_tile.specs.Load.{wordsIn, words_of, stride_of, offset_of, rows_of, granted, requestOf}
 use Rattle.plan.specs.declared.types.Copy.{Copy}
 use Rattle.plan.specs.declared.types.End.{End}
 use Rattle.plan.specs.declared.types.Strip.{Strip}
@@ -25,7 +25,7 @@ use Rattle.copy.specs.declared.types.Place.{Place}
 use Rattle.strips.specs.Strip.{Less, StripIs, Rows, column-is}
 use Rattle.copy.specs.Walk.{placeAt, SoundPlace, imageEntry, tileEntry, tile0Entry, sizeEntry, areaOf, requestIn, rectEntry, tooBig}
 use Rattle.copy.specs.Coming.{restFrom, rest_of, dueTail, loadTail, stripTail, tailOf, too-big, fits, right-tail, row-rest, below-tail}
-use Rattle.counting.specs.Count.{wrapColumn, bytes_of, wordsIn, refusedAt}
+use Rattle.counting.specs.Count.{wrapColumn, bytes_of, refusedAt}
 use Rattle.counting.proofs.Wrap.{strip-wrapped, row_below}
 
 -- the end of what is to come, where tile 7 has this line
@@ -89,7 +89,7 @@ module _ (p : Place) (s : SoundPlace p) where
       let r = s.rows in
       omega arith
 
-  span_is : span ≡ (p.strip_height - 1) * bytes_of p.copy.siz p.copy.image_width + 8 * wordsIn p.copy.siz p.strip.load_width
+  span_is : span ≡ (p.strip_height - 1) * bytes_of p.copy.siz p.copy.image_width + 8 * wordsIn p.copy.siz (p.strip.load_width - 1)
   span_is =
       let c = s.copy in
       let b = s.strip in

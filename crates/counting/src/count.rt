@@ -5,7 +5,7 @@ ghost use Rattle.plan.specs.Copy.{copyPlan};
 ghost use Rattle.plan.specs.Run.{end_of};
 ghost use Rattle.plan.specs.Sound.{SoundCopy};
 ghost use Rattle.strips.specs.Frame.{AtMost};
-ghost use Rattle.counting.specs.Count.{wrapColumn, bytes_of, wordsIn, refusedAt};
+ghost use Rattle.counting.specs.Count.{wrapColumn, bytes_of, refusedAt};
 
 use object::Verdict;
 use plan::{Copy, End, Strip};
@@ -32,19 +32,6 @@ fn bytes_of(siz: u64, texels: u64) -> u64
     }
 }
 
-// The words of a row of a load of that many columns.
-fn words_in(siz: u64, columns: u64) -> u64
-    requires { (siz ≤ 3) × ((1 ≤ columns) × (columns ≤ 1038)) }
-    ensures { AtMost (wordsIn siz columns) 1038 result }
-{
-    match siz {
-        0 => (columns - 1) / 16 + 1,
-        1 => (columns - 1) / 8 + 1,
-        2 => (columns - 1) / 4 + 1,
-        _ => (columns - 1) / 2 + 1,
-    }
-}
-
 // The load of the strip from this row would reach the end of the address space.
 fn refused(c: Copy, s: Strip, sy: u64, strip_height: u64) -> bool
     requires sound_copy { SoundCopy c }
@@ -54,7 +41,7 @@ fn refused(c: Copy, s: Strip, sy: u64, strip_height: u64) -> bool
 {
     let row = bytes_of(c.siz, c.image_width);
     let offset = bytes_of(c.siz, s.aligned_left) + row * sy;
-    let length = (strip_height - 1) * row + 8 * words_in(c.siz, s.load_width);
+    let length = (strip_height - 1) * row + 8 * load_tile::words_in(c.siz, s.load_width - 1);
     !load_tile::granted(c.address, offset, length)
 }
 

@@ -9,9 +9,13 @@ pub record AtMost (x m r : ℕ) : Type 0 where
   pub is : r ≡ x
   pub most : r ≤ m
 
--- D "columns c = max(0, lrs − uls)", "words = floor(c / 2^(4 − siz)) + 1", of bounds divided by 4
+-- D "words = floor(c / 2^(4 − siz)) + 1"
+abbrev pub wordsIn : (siz c : ℕ) → ℕ
+wordsIn siz c = c / 2 ^ (4 - siz) + 1
+
+-- D "columns c = max(0, lrs − uls)", of bounds divided by 4
 abbrev pub words_of : (siz uls lrs : ℕ) → ℕ
-words_of siz uls lrs = (lrs / 4 - uls / 4) / 2 ^ (4 - siz) + 1
+words_of siz uls lrs = wordsIn siz (lrs / 4 - uls / 4)
 
 -- D "rows = 1 + max(0, lrt − ult)"
 abbrev pub rows_of : (ult lrt : ℕ) → ℕ

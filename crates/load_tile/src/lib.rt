@@ -3,4 +3,4 @@
 
 mod load;
 
-pub use load::{LoadRequest, granted, load_request};
+pub use load::{LoadRequest, granted, load_request, words_in};

@@ -1,6 +1,6 @@
 // The load request: what `load_tile_typed` asks of the host.
 ghost use Rattle.std.specs.Prelude.{◌≡◌, ◌+◌, ◌^◌, ◌≤◌, ◌-◌};
-ghost use Rattle.load_tile.specs.Load.{AtMost, words_of, rows_of, stride_of, offset_of, granted, requestOf};
+ghost use Rattle.load_tile.specs.Load.{AtMost, wordsIn, words_of, rows_of, stride_of, offset_of, granted, requestOf};
 
 #[derive(Clone, Copy)]
 pub enum LoadRequest {
@@ -35,11 +35,24 @@ fn less(a: u16, b: u16) -> u64
     if b < a { (a - b) as u64 } else { 0 }
 }
 
+// The words of a row that has so many columns after its first. By cases, as a division by a number that is not constant would stand in every load.
+pub fn words_in(siz: u64, columns: u64) -> u64
+    requires { siz ≤ 3 }
+    ensures { result ≡ wordsIn siz columns }
+{
+    match siz {
+        0 => columns / 16 + 1,
+        1 => columns / 8 + 1,
+        2 => columns / 4 + 1,
+        _ => columns / 2 + 1,
+    }
+}
+
 fn words_per_row(siz: u8, uls: u16, lrs: u16) -> u64
     requires { siz ≤ 3 }
     ensures { AtMost (words_of siz uls lrs) 16384 result }
 {
-    less(lrs / 4, uls / 4) / power(4 - siz) + 1
+    words_in(siz as u64, less(lrs / 4, uls / 4))
 }
 
 fn row_count(ult: u16, lrt: u16) -> u64
