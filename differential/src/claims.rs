@@ -165,9 +165,9 @@ impl Claims {
         let verdict = answer.end.verdict;
         let entries = &answer.plan.entries;
         let replayed = replayed(&settings.bank, entries);
-        if record.opcode == COPY && verdict == 9 {
+        if verdict == 9 && answer.plan.refused_load {
             self.note(
-                "bank after copy 9: only tile 7's size may differ",
+                "bank after a refused load: only tile 7's size may differ",
                 number,
                 record,
                 same_but_size(&replayed, &answer.bank),
@@ -186,6 +186,12 @@ impl Claims {
                 number,
                 record,
                 loads_hold(entries),
+            );
+            self.note(
+                "each load ends by 2^64 - 1",
+                number,
+                record,
+                loads_end(entries),
             );
             self.note(
                 "tile words are the largest rows × line",
@@ -354,6 +360,12 @@ fn same_but_size(a: &Bank, b: &Bank) -> bool {
         bank
     };
     strip(a) == strip(b)
+}
+
+/// Start plus length of each load (SPECIFICATION 6.4).
+fn loads_end(entries: &[Entry]) -> bool {
+    let mut loads = entries.iter().filter(|entry| entry[0] == LOAD);
+    loads.all(|load| load[9].checked_add(load[10]).is_some())
 }
 
 /// The load request (SPECIFICATION 6.3), from the entries alone.
