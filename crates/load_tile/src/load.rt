@@ -76,7 +76,7 @@ fn offset(siz: u8, stride: u64, uls: u16, ult: u16) -> u64
     (uls / 4) as u64 * power(siz) / 2 + stride * ((ult / 4) as u64)
 }
 
-// Whether a load's bytes all have addresses: its start is tested, then its span, as the Rust's `checked_span` and `read_bytes_exact` do.
+// Whether start plus length stays within 2^64 - 1: the start is tested, then the span, as the Rust's `checked_span` and `read_bytes_exact` do.
 pub fn granted(address: u64, offset: u64, length: u64) -> bool
     ensures { result ≡ granted (address + offset) length }
 {
