@@ -63,12 +63,12 @@ def module(oracle, path, title, groups, bank=None):
     with open(path, 'w') as f:
         f.write(f'-- {title} Written by tools/make_cases.py from the oracle\'s output.\n-- Assumes nothing.\n'
                 f'use Rattle.std.specs.Prelude.{{List, [], ◌∷◌, {"" if bank else "ℕ, "}T}}\n'
-                f'use {crate}.Check.{{Given, {"saying" if said else "given"}, ends, allAgree}}\n'
+                f'use {crate}.Check.{{Given, {"saying" if said else "given"}, ends, all_agree}}\n'
                 + (f'use {crate}.Check.Figure.{{answers, entries, rects, words, lines, begins, drifts}}\n' if said else '')
                 + (f'use {crate}.{bank}.{{bank}}\n' if bank else f'\n-- the bank that every run starts from\nabbrev pub bank : List ℕ\nbank =\n    {initial(oracle)}\n'))
         for name, rows in groups:
             f.write(f'\nunfoldable pub {name} : List Given\n{name} =\n' + ''.join((f'    -- {c}\n' if c else '') + f'    {"" if i == 0 else "∷ "}{r}\n' for i, (c, r) in enumerate(rows)) + '    ∷ []\n'
-                    f'\npub {name}-agree : T (allAgree bank {name})\nunfolding {name} allAgree\n{name}-agree = tt\n')
+                    f'\npub {name}_agree : T (all_agree bank {name})\nunfolding {name} all_agree\n{name}_agree = tt\n')
 
 def records(path):
     """the 61 bytes of a case in each item of 64"""

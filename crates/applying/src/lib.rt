@@ -2,21 +2,21 @@
 #![tactic(auto)]
 
 ghost use Rattle.std.specs.Prelude.{◌≡◌, length};
-ghost use Rattle.applying.specs.Applied.{setsNothing, setsTile, setsBounds, applied, appliedOf};
+ghost use Rattle.applying.specs.Applied.{sets_nothing, sets_tile, sets_bounds, applied, applied_of};
 
 use settling::{bounds_at, tile_at};
 
 // A texture image or a rectangle.
 fn sets_nothing(entry: &[u64]) -> bool
     requires { length entry.now ≡ 11 }
-    ensures { result ≡ setsNothing entry.now }
+    ensures { result ≡ sets_nothing entry.now }
 {
     (entry[0] == 1) | (entry[0] == 5)
 }
 
 fn sets_tile(entry: &[u64]) -> bool
     requires { length entry.now ≡ 11 }
-    ensures { result ≡ setsTile entry.now }
+    ensures { result ≡ sets_tile entry.now }
 {
     (entry[0] == 2) & (entry[1] < 8)
 }
@@ -24,7 +24,7 @@ fn sets_tile(entry: &[u64]) -> bool
 // A size or a load: bounds of more than 16 bits are no tile's.
 fn sets_bounds(entry: &[u64]) -> bool
     requires { length entry.now ≡ 11 }
-    ensures { result ≡ setsBounds entry.now }
+    ensures { result ≡ sets_bounds entry.now }
 {
     ((entry[0] == 3) | (entry[0] == 4))
         & ((entry[1] < 8)
@@ -35,7 +35,7 @@ fn sets_bounds(entry: &[u64]) -> bool
 // Sets what the entry sets and answers 0; answers 1, and sets nothing, where the words are no entry's.
 pub fn apply(bank: &mut [u64], entry: &[u64]) -> u64
     requires { length entry.now ≡ 11 }
-    ensures { applied result bank.new ≡ appliedOf entry.now bank.old }
+    ensures { applied result bank.new ≡ applied_of entry.now bank.old }
 {
     if sets_nothing(entry) {
         return 0;

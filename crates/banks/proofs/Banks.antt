@@ -13,55 +13,55 @@ use lib.ListN.{length, take, drop, get_or, set, get_or-append, length-set}
 use lib.Seq.{drop-drop, get_or-append-add, take-suc, take-suc-set, take_all}
 use Rattle.tile.specs.declared.bank.Tile.{Tile}
 use Rattle.tile.specs.declared.bank.Bank.{Bank}
-use Rattle.tile.specs.Bank.{blank, replaced, resized, extent, setTile, setSize}
-use Rattle.tile.specs.Laws.{extent-is}
+use Rattle.tile.specs.Bank.{blank, replaced, resized, extent, set_tile, set_size}
+use Rattle.tile.specs.Laws.{extent_is}
 use Rattle.plan.specs.declared.types.Entry.{Entry}
 use Rattle.plan.specs.declared.types.Entry.TheVariants as entry
-use Rattle.plan.specs.Check.{tileNumbers, tilesNumbers}
-use Rattle.plan.specs.Run.{descriptor, bankStep, bankAfter}
+use Rattle.plan.specs.Check.{tile_numbers, tiles_numbers}
+use Rattle.plan.specs.Run.{descriptor, bank_step, bank_after}
 use Rattle.plan.specs.Sound.{Narrow}
-use Rattle.giving.specs.Host.{tileFrom, tilesFrom, bankFrom, bankNumbers, seventeen, each-seventeen}
+use Rattle.giving.specs.Host.{tile_from, tiles_from, bank_from, bank_numbers, seventeen, each_seventeen}
 use Rattle.banks.specs.Narrows.{AllNarrow}
 
 -- ---- words into a bank
 
-pub eight-from : (ws : List ℕ) → bankFrom ws ≡ record { tiles = tileFrom (drop 0 ws) ∷ tileFrom (drop 17 ws) ∷ tileFrom (drop 34 ws) ∷ tileFrom (drop 51 ws) ∷ tileFrom (drop 68 ws) ∷ tileFrom (drop 85 ws) ∷ tileFrom (drop 102 ws) ∷ tileFrom (drop 119 ws) ∷ [] }
-unfolding bankFrom tilesFrom
-eight-from ws = simp drop-drop
+pub eight_from : (ws : List ℕ) → bank_from ws ≡ record { tiles = tile_from (drop 0 ws) ∷ tile_from (drop 17 ws) ∷ tile_from (drop 34 ws) ∷ tile_from (drop 51 ws) ∷ tile_from (drop 68 ws) ∷ tile_from (drop 85 ws) ∷ tile_from (drop 102 ws) ∷ tile_from (drop 119 ws) ∷ [] }
+unfolding bank_from tiles_from
+eight_from ws = simp drop-drop
 
 -- ---- a bank into words
 
-number_at : (ts : List Tile) (i : ℕ) → i < length ts * 17 → get_or (tilesNumbers ts) i 0 ≡ get_or (tileNumbers (get_or ts (i / 17) blank)) (i % 17) 0
-unfolding tilesNumbers
+number_at : (ts : List Tile) (i : ℕ) → i < length ts * 17 → get_or (tiles_numbers ts) i 0 ≡ get_or (tile_numbers (get_or ts (i / 17) blank)) (i % 17) 0
+unfolding tiles_numbers
 number_at [] i h = absurd (omega arith)
 number_at (t ∷ ts) i h = by (λ j l. number_at ts j l) (ltb i 17) refl
   where
-    by : ((j : ℕ) → j < length ts * 17 → get_or (tilesNumbers ts) j 0 ≡ get_or (tileNumbers (get_or ts (j / 17) blank)) (j % 17) 0) → (b : Bool) → ltb i 17 ≡ b → get_or (tileNumbers t ++ tilesNumbers ts) i 0 ≡ get_or (tileNumbers (get_or (t ∷ ts) (i / 17) blank)) (i % 17) 0
+    by : ((j : ℕ) → j < length ts * 17 → get_or (tiles_numbers ts) j 0 ≡ get_or (tile_numbers (get_or ts (j / 17) blank)) (j % 17) 0) → (b : Bool) → ltb i 17 ≡ b → get_or (tile_numbers t ++ tiles_numbers ts) i 0 ≡ get_or (tile_numbers (get_or (t ∷ ts) (i / 17) blank)) (i % 17) 0
     by rest true e =
         let l = ltb-true i 17 e in
         let q : i / 17 ≡ 0 = omega arith in
         let r : i % 17 ≡ i = omega arith in
-        get_or-append (tileNumbers t) (tilesNumbers ts) 0 i (omega (arith, seventeen t)) ∙ rw (q, r)
+        get_or-append (tile_numbers t) (tiles_numbers ts) 0 i (omega (arith, seventeen t)) ∙ rw (q, r)
     by rest false e =
         let l = ltb-false i 17 e in
-        let z : i ≡ length (tileNumbers t) + (i - 17) = omega (arith, seventeen t) in
+        let z : i ≡ length (tile_numbers t) + (i - 17) = omega (arith, seventeen t) in
         let q : i / 17 ≡ suc ((i - 17) / 17) = omega arith in
         let r : (i - 17) % 17 ≡ i % 17 = omega arith in
-        ap (λ (j : ℕ). get_or (tileNumbers t ++ tilesNumbers ts) j 0) z
-        ∙ get_or-append-add (tileNumbers t) (tilesNumbers ts) (i - 17) 0
+        ap (λ (j : ℕ). get_or (tile_numbers t ++ tiles_numbers ts) j 0) z
+        ∙ get_or-append-add (tile_numbers t) (tiles_numbers ts) (i - 17) 0
         ∙ rest (i - 17) (omega arith)
         ∙ rw (q, r)
 
 module _ (b : Bank) (eight : length b.tiles ≡ 8) (words : List ℕ) (is : length words ≡ 136) where
-  pub next-number : (i x : ℕ) → i < 136 → take i words ≡ take i (bankNumbers b) → x ≡ get_or (tileNumbers (get_or b.tiles (i / 17) blank)) (i % 17) 0 → take (i + 1) (set words i x) ≡ take (i + 1) (bankNumbers b)
-  unfolding bankNumbers
-  next-number i x h t e =
-      let l = each-seventeen b.tiles in
-      rw (add-one, take-suc-set words i x (omega arith), take-suc (tilesNumbers b.tiles) i 0 (omega arith), t, e, number_at b.tiles i (omega arith))
+  pub next_number : (i x : ℕ) → i < 136 → take i words ≡ take i (bank_numbers b) → x ≡ get_or (tile_numbers (get_or b.tiles (i / 17) blank)) (i % 17) 0 → take (i + 1) (set words i x) ≡ take (i + 1) (bank_numbers b)
+  unfolding bank_numbers
+  next_number i x h t e =
+      let l = each_seventeen b.tiles in
+      rw (add-one, take-suc-set words i x (omega arith), take-suc (tiles_numbers b.tiles) i 0 (omega arith), t, e, number_at b.tiles i (omega arith))
 
-  pub all-numbers : (i : ℕ) → 136 ≤ i → take i words ≡ take i (bankNumbers b) → words ≡ bankNumbers b
-  unfolding bankNumbers
-  all-numbers i h t = let l = each-seventeen b.tiles in sym (take_all i words (omega arith)) ∙ t ∙ take_all i (tilesNumbers b.tiles) (omega arith)
+  pub all_numbers : (i : ℕ) → 136 ≤ i → take i words ≡ take i (bank_numbers b) → words ≡ bank_numbers b
+  unfolding bank_numbers
+  all_numbers i h t = let l = each_seventeen b.tiles in sym (take_all i words (omega arith)) ∙ t ∙ take_all i (tiles_numbers b.tiles) (omega arith)
 
 -- ---- a bank that is written and read again
 
@@ -99,9 +99,9 @@ half x = omega arith
 byte : (x : ℕ) → x % 2 ^ 8 < 2 ^ 8
 byte x = omega arith
 
-from-fits : (ws : List ℕ) → TileFits (tileFrom ws)
-unfolding tileFrom
-from-fits ws =
+from_fits : (ws : List ℕ) → TileFits (tile_from ws)
+unfolding tile_from
+from_fits ws =
     record {
       uls = half _;
       ult = half _;
@@ -122,23 +122,23 @@ from-fits ws =
       tmem = half _;
     }
 
-tiles-fit : (n : ℕ) (ws : List ℕ) → TilesFit (tilesFrom n ws)
-unfolding tilesFrom
-tiles-fit zero ws = tt
-tiles-fit (suc n) ws = (from-fits ws, tiles-fit n (drop 17 ws))
+tiles_fit : (n : ℕ) (ws : List ℕ) → TilesFit (tiles_from n ws)
+unfolding tiles_from
+tiles_fit zero ws = tt
+tiles_fit (suc n) ws = (from_fits ws, tiles_fit n (drop 17 ws))
 
-tiles-from : (n : ℕ) (ws : List ℕ) → length (tilesFrom n ws) ≡ n
-unfolding tilesFrom
-tiles-from zero ws = refl
-tiles-from (suc n) ws = ap suc (tiles-from n (drop 17 ws))
+tiles_from_lem : (n : ℕ) (ws : List ℕ) → length (tiles_from n ws) ≡ n
+unfolding tiles_from
+tiles_from_lem zero ws = refl
+tiles_from_lem (suc n) ws = ap suc (tiles_from_lem n (drop 17 ws))
 
-pub bank-fits : (ws : List ℕ) → BankFits (bankFrom ws)
-unfolding bankFrom
-bank-fits ws = record { eight = tiles-from 8 ws; fits = tiles-fit 8 ws }
+pub bank_fits : (ws : List ℕ) → BankFits (bank_from ws)
+unfolding bank_from
+bank_fits ws = record { eight = tiles_from_lem 8 ws; fits = tiles_fit 8 ws }
 
-tile-back : (t : Tile) (ns : List ℕ) → TileFits t → tileFrom (tileNumbers t ++ ns) ≡ t
-unfolding tileFrom tileNumbers
-tile-back t ns h = λ i.
+tile_back : (t : Tile) (ns : List ℕ) → TileFits t → tile_from (tile_numbers t ++ ns) ≡ t
+unfolding tile_from tile_numbers
+tile_back t ns h = λ i.
     record {
       uls = mod-eq_of_lt h.uls i;
       ult = mod-eq_of_lt h.ult i;
@@ -159,23 +159,23 @@ tile-back t ns h = λ i.
       tmem_addr = mod-eq_of_lt h.tmem i;
     }
 
-rest_back : (t : Tile) (ns : List ℕ) → drop 17 (tileNumbers t ++ ns) ≡ ns
-unfolding tileNumbers
+rest_back : (t : Tile) (ns : List ℕ) → drop 17 (tile_numbers t ++ ns) ≡ ns
+unfolding tile_numbers
 rest_back t ns = refl
 
-tiles-back : (ts : List Tile) → TilesFit ts → tilesFrom (length ts) (tilesNumbers ts) ≡ ts
-unfolding tilesFrom tilesNumbers
-tiles-back [] h = refl
-tiles-back (t ∷ ts) h = rw (tile-back t _ h.0, rest_back t (tilesNumbers ts), tiles-back ts h.1)
+tiles_back : (ts : List Tile) → TilesFit ts → tiles_from (length ts) (tiles_numbers ts) ≡ ts
+unfolding tiles_from tiles_numbers
+tiles_back [] h = refl
+tiles_back (t ∷ ts) h = rw (tile_back t _ h.0, rest_back t (tiles_numbers ts), tiles_back ts h.1)
 
-pub bank-back : (b : Bank) → BankFits b → bankFrom (bankNumbers b) ≡ b
-unfolding bankFrom bankNumbers
-bank-back b h = let n = h.eight in ap (λ (ts : List Tile). record { tiles = ts }) (rw (← n) (tiles-back b.tiles h.fits))
+pub bank_back : (b : Bank) → BankFits b → bank_from (bank_numbers b) ≡ b
+unfolding bank_from bank_numbers
+bank_back b h = let n = h.eight in ap (λ (ts : List Tile). record { tiles = ts }) (rw (← n) (tiles_back b.tiles h.fits))
 
 -- ---- an entry that is narrow leaves such a bank
 
-blank-fits : TileFits blank
-blank-fits =
+blank_fits : TileFits blank
+blank_fits =
     record {
       uls = omega arith;
       ult = omega arith;
@@ -196,18 +196,18 @@ blank-fits =
       tmem = omega arith;
     }
 
-tile-at : (ts : List Tile) (i : ℕ) → TilesFit ts → TileFits (get_or ts i blank)
-tile-at [] i h = blank-fits
-tile-at (t ∷ ts) zero h = h.0
-tile-at (t ∷ ts) (suc i) h = tile-at ts i h.1
+tile_at : (ts : List Tile) (i : ℕ) → TilesFit ts → TileFits (get_or ts i blank)
+tile_at [] i h = blank_fits
+tile_at (t ∷ ts) zero h = h.0
+tile_at (t ∷ ts) (suc i) h = tile_at ts i h.1
 
-set-fits : (ts : List Tile) (i : ℕ) (t : Tile) → TilesFit ts → TileFits t → TilesFit (set ts i t)
-set-fits [] i t h k = tt
-set-fits (u ∷ ts) zero t h k = (k, h.1)
-set-fits (u ∷ ts) (suc i) t h k = (h.0, set-fits ts i t h.1 k)
+set_fits : (ts : List Tile) (i : ℕ) (t : Tile) → TilesFit ts → TileFits t → TilesFit (set ts i t)
+set_fits [] i t h k = tt
+set_fits (u ∷ ts) zero t h k = (k, h.1)
+set_fits (u ∷ ts) (suc i) t h k = (h.0, set_fits ts i t h.1 k)
 
-replaced-fits : (t u : Tile) → TileFits t → TileFits u → TileFits (replaced t u)
-replaced-fits t u h k =
+replaced_fits : (t u : Tile) → TileFits t → TileFits u → TileFits (replaced t u)
+replaced_fits t u h k =
     record {
       uls = h.uls;
       ult = h.ult;
@@ -228,18 +228,18 @@ replaced-fits t u h k =
       tmem = k.tmem;
     }
 
-extent-fits : (low high : ℕ) → high ≤ 65535 → extent low high < 2 ^ 16
-extent-fits low high h = omega (arith, extent-is low high)
+extent_fits : (low high : ℕ) → high ≤ 65535 → extent low high < 2 ^ 16
+extent_fits low high h = omega (arith, extent_is low high)
 
-resized-fits : (t : Tile) (uls ult lrs lrt : ℕ) → TileFits t → uls ≤ 65535 → ult ≤ 65535 → lrs ≤ 65535 → lrt ≤ 65535 → TileFits (resized t uls ult lrs lrt)
-resized-fits t uls ult lrs lrt h a b c d =
+resized_fits : (t : Tile) (uls ult lrs lrt : ℕ) → TileFits t → uls ≤ 65535 → ult ≤ 65535 → lrs ≤ 65535 → lrt ≤ 65535 → TileFits (resized t uls ult lrs lrt)
+resized_fits t uls ult lrs lrt h a b c d =
     record {
       uls = omega arith;
       ult = omega arith;
       lrs = omega arith;
       lrt = omega arith;
-      width = extent-fits uls lrs c;
-      height = extent-fits ult lrt d;
+      width = extent_fits uls lrs c;
+      height = extent_fits ult lrt d;
       fmt = h.fmt;
       siz = h.siz;
       palette = h.palette;
@@ -253,14 +253,14 @@ resized-fits t uls ult lrs lrt h a b c d =
       tmem = h.tmem;
     }
 
-set-bank : (b : Bank) (i : ℕ) (t : Tile) → BankFits b → TileFits t → BankFits (record { tiles = set b.tiles i t })
-set-bank b i t h k = record { eight = length-set b.tiles i t ∙ h.eight; fits = set-fits b.tiles i t h.fits k }
+set_bank : (b : Bank) (i : ℕ) (t : Tile) → BankFits b → TileFits t → BankFits (record { tiles = set b.tiles i t })
+set_bank b i t h k = record { eight = length-set b.tiles i t ∙ h.eight; fits = set_fits b.tiles i t h.fits k }
 
-step_fits : (b : Bank) (e : Entry) → BankFits b → Narrow e → BankFits (bankStep b e)
-unfolding bankStep setTile setSize
+step_fits : (b : Bank) (e : Entry) → BankFits b → Narrow e → BankFits (bank_step b e)
+unfolding bank_step set_tile set_size
 step_fits b (entry.Image fmt siz width address) h n = h
 step_fits b (entry.Tile i fmt siz line tmem palette cms cmt masks maskt) h n =
-    set-bank b i _ h (replaced-fits _ (descriptor fmt siz line tmem palette cms cmt masks maskt) (tile-at b.tiles i h.fits) (record {
+    set_bank b i _ h (replaced_fits _ (descriptor fmt siz line tmem palette cms cmt masks maskt) (tile_at b.tiles i h.fits) (record {
       uls = omega arith;
       ult = omega arith;
       lrs = omega arith;
@@ -279,11 +279,11 @@ step_fits b (entry.Tile i fmt siz line tmem palette cms cmt masks maskt) h n =
       line = omega (arith, n.1.1.0);
       tmem = omega (arith, n.1.1.1.0);
     }))
-step_fits b (entry.Size i uls ult lrs lrt) h n = set-bank b i _ h (resized-fits _ uls ult lrs lrt (tile-at b.tiles i h.fits) n.0 n.1.0 n.1.1.0 n.1.1.1)
-step_fits b (entry.Load i uls ult lrs lrt words rows stride start len) h n = set-bank b i _ h (resized-fits _ uls ult lrs lrt (tile-at b.tiles i h.fits) n.0 n.1.0 n.1.1.0 n.1.1.1)
+step_fits b (entry.Size i uls ult lrs lrt) h n = set_bank b i _ h (resized_fits _ uls ult lrs lrt (tile_at b.tiles i h.fits) n.0 n.1.0 n.1.1.0 n.1.1.1)
+step_fits b (entry.Load i uls ult lrs lrt words rows stride start len) h n = set_bank b i _ h (resized_fits _ uls ult lrs lrt (tile_at b.tiles i h.fits) n.0 n.1.0 n.1.1.0 n.1.1.1)
 step_fits b (entry.Rect i ulx uly lrx lry uls ult dsdx dtdy row) h n = h
 
-pub after-fits : (es : List Entry) (b : Bank) → BankFits b → AllNarrow es → BankFits (bankAfter b es)
-unfolding bankAfter
-after-fits [] b h n = h
-after-fits (e ∷ es) b h n = after-fits es (bankStep b e) (step_fits b e h n.0) n.1
+pub after_fits : (es : List Entry) (b : Bank) → BankFits b → AllNarrow es → BankFits (bank_after b es)
+unfolding bank_after
+after_fits [] b h n = h
+after_fits (e ∷ es) b h n = after_fits es (bank_step b e) (step_fits b e h n.0) n.1

@@ -1,7 +1,7 @@
 // A bank out of words and as words: eight tiles of seventeen.
 ghost use Rattle.std.specs.Prelude.{◌≡◌, ◌+◌, ◌≤◌, ◌<◌, length, drop};
-ghost use Rattle.plan.specs.Check.{tileNumbers};
-ghost use Rattle.giving.specs.Host.{bankFrom, bankNumbers, byte_at, halfAt, tileFrom};
+ghost use Rattle.plan.specs.Check.{tile_numbers};
+ghost use Rattle.giving.specs.Host.{bank_from, bank_numbers, byte_at, half_at, tile_from};
 
 use tile::{Bank, Tile};
 
@@ -9,7 +9,7 @@ use tile::{Bank, Tile};
 
 fn half(words: &[u64], at: usize, k: usize) -> u16
     requires { (at + 17 ≤ length words.now) × (k < 17) }
-    ensures { result ≡ halfAt (drop at words.now) k }
+    ensures { result ≡ half_at (drop at words.now) k }
 {
     (words[at + k] % 0x1_0000) as u16
 }
@@ -23,7 +23,7 @@ fn byte(words: &[u64], at: usize, k: usize) -> u8
 
 fn tile_from(words: &[u64], at: usize) -> Tile
     requires { at + 17 ≤ length words.now }
-    ensures { result ≡ tileFrom (drop at words.now) }
+    ensures { result ≡ tile_from (drop at words.now) }
 {
     Tile {
         uls: half(words, at, 0),
@@ -48,7 +48,7 @@ fn tile_from(words: &[u64], at: usize) -> Tile
 
 pub fn bank_from(words: &[u64]) -> Bank
     requires { length words.now ≡ 136 }
-    ensures { result ≡ bankFrom words.now }
+    ensures { result ≡ bank_from words.now }
 {
     let tiles = [
         tile_from(words, 0),
@@ -78,7 +78,7 @@ fn of_byte(x: u8) -> u64
 }
 
 fn tile_words(t: Tile) -> [u64; 17]
-    ensures { result ≡ tileNumbers t }
+    ensures { result ≡ tile_numbers t }
 {
     [
         of_half(t.uls),
@@ -102,7 +102,7 @@ fn tile_words(t: Tile) -> [u64; 17]
 }
 
 pub fn words_of(bank: Bank) -> [u64; 136]
-    ensures { result ≡ bankNumbers bank }
+    ensures { result ≡ bank_numbers bank }
 {
     let mut words = [0u64; 136];
     let mut i: usize = 0;

@@ -5,7 +5,7 @@
 ghost use Rattle.std.specs.Prelude.{◌≡◌, ◌≤◌, IfOk, OnOk, IfSome, length, take};
 ghost use Rattle.std.specs.Io.KnownBytes.{Appends};
 ghost use Rattle.planner.specs.Coming.{Sound, coming};
-ghost use Rattle.show.specs.Joined.{comingText};
+ghost use Rattle.show.specs.Joined.{coming_text};
 ghost use Rattle.bgplan.specs.Answer.{AnswerIs};
 
 mod failure;
@@ -42,7 +42,7 @@ fn piece() -> [u8; 262144]
 // The text of all that a planner has to come, in large pieces. The one place where it goes out; after a write that fails nothing more does.
 fn print<W: Write>(output: &mut W, start: Planner) -> io::Result<()>
     requires { Sound start }
-    ensures { OnOk result (Appends (W.contents output.old) (W.contents output.new) (comingText (coming start))) }
+    ensures { OnOk result (Appends (W.contents output.old) (W.contents output.new) (coming_text (coming start))) }
 {
     let mut piece = piece();
     let mut planner = start;

@@ -2,8 +2,8 @@
 #![tactic(auto)]
 
 ghost use Rattle.std.specs.Prelude.{◌≤◌};
-ghost use Rattle.plan.specs.Copy.{copyCapacity};
-ghost use Rattle.plan.specs.Scaled.{scaledCapacity};
+ghost use Rattle.plan.specs.Copy.{copy_capacity};
+ghost use Rattle.plan.specs.Scaled.{scaled_capacity};
 ghost use Rattle.capacity.specs.Entry.{Place, Capacity};
 
 const COPY_CAPACITY: [u64; 20] = [
@@ -26,7 +26,7 @@ fn place(fmt: u8, siz: u8) -> usize
 
 pub fn copy_capacity(fmt: u8, siz: u8) -> u64
     requires { (fmt ≤ 4) × (siz ≤ 3) }
-    ensures { Capacity (copyCapacity fmt siz) result }
+    ensures { Capacity (copy_capacity fmt siz) result }
 {
     let place = place(fmt, siz);
     COPY_CAPACITY[place]
@@ -34,7 +34,7 @@ pub fn copy_capacity(fmt: u8, siz: u8) -> u64
 
 pub fn scaled_capacity(fmt: u8, siz: u8) -> u64
     requires { (fmt ≤ 4) × (siz ≤ 3) }
-    ensures { Capacity (scaledCapacity fmt siz) result }
+    ensures { Capacity (scaled_capacity fmt siz) result }
 {
     let place = place(fmt, siz);
     SCALED_CAPACITY[place]

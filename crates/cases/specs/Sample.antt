@@ -1,7 +1,7 @@
 -- The sample records of crates/replay. Written by tools/make_cases.py from the oracle's output.
 -- Assumes nothing.
 use Rattle.std.specs.Prelude.{List, [], ◌∷◌, T}
-use Rattle.plan.specs.Check.{Given, given, ends, allAgree}
+use Rattle.plan.specs.Check.{Given, given, ends, all_agree}
 use Rattle.plan.specs.Unit.{bank}
 
 unfoldable pub sample : List Given
@@ -3792,6 +3792,6 @@ sample =
     ∷ [])
     ∷ []
 
-pub sample-agree : T (allAgree bank sample)
-unfolding sample allAgree
-sample-agree = tt
+pub sample_agree : T (all_agree bank sample)
+unfolding sample all_agree
+sample_agree = tt

@@ -12,18 +12,18 @@ use Rattle.measures.specs.Measure.{quarters}
 use Rattle.object.specs.Layout.{size_of, decode}
 
 -- D 4.1: the number of a verdict
-abbrev pub verdictNumber : Verdict → ℕ
-verdictNumber verdict.Finished = 0
-verdictNumber verdict.Opcode = 1
-verdictNumber verdict.Short = 2
-verdictNumber verdict.Scissor = 3
-verdictNumber verdict.Object = 4
-verdictNumber verdict.Copy = 5
-verdictNumber verdict.Slices = 6
-verdictNumber verdict.TooBig = 7
-verdictNumber verdict.Piece = 8
-verdictNumber verdict.Address = 9
-verdictNumber verdict.Full = 10
+abbrev pub verdict_number : Verdict → ℕ
+verdict_number verdict.Finished = 0
+verdict_number verdict.Opcode = 1
+verdict_number verdict.Short = 2
+verdict_number verdict.Scissor = 3
+verdict_number verdict.Object = 4
+verdict_number verdict.Copy = 5
+verdict_number verdict.Slices = 6
+verdict_number verdict.TooBig = 7
+verdict_number verdict.Piece = 8
+verdict_number verdict.Address = 9
+verdict_number verdict.Full = 10
 
 -- whether any of a verdict's conditions holds
 abbrev pub any : List Bool → Bool
@@ -31,8 +31,8 @@ any [] = false
 any (t ∷ ts) = t || any ts
 
 -- D verdict 1 "neither 9 nor 10"
-abbrev pub opcodeBad : ℕ → Bool
-opcodeBad opcode = not (eqb opcode 9 || eqb opcode 10)
+abbrev pub opcode_bad : ℕ → Bool
+opcode_bad opcode = not (eqb opcode 9 || eqb opcode 10)
 
 -- D "Opcode 9 is scaled (one-cycle), 10 is copy"
 abbrev pub copies : ℕ → Bool
@@ -43,15 +43,15 @@ abbrev pub short : ℕ → ℕ → List ℕ → Bool
 short p opcode bs = ltb (length bs) (size_of p (copies opcode))
 
 -- D verdict 3 "an edge outside 0..1023"
-abbrev pub edgeBad : ℤ → Bool
-edgeBad edge = lt_z edge (pos 0) || lt_z (pos 1023) edge
+abbrev pub edge_bad : ℤ → Bool
+edge_bad edge = lt_z edge (pos 0) || lt_z (pos 1023) edge
 
-unfoldable pub scissorBad : Scissor → Bool
-scissorBad s = any (edgeBad s.ulx ∷ edgeBad s.uly ∷ edgeBad s.lrx ∷ edgeBad s.lry ∷ [])
+unfoldable pub scissor_bad : Scissor → Bool
+scissor_bad s = any (edge_bad s.ulx ∷ edge_bad s.uly ∷ edge_bad s.lrx ∷ edge_bad s.lry ∷ [])
 
 -- D 4.4, R 87–93 of `read_bg`: the conditions in D's order
-unfoldable pub objectFaults : ObjBg → List Bool
-objectFaults bg =
+unfoldable pub object_faults : ObjBg → List Bool
+object_faults bg =
     eqb (quarters bg.image_w) 0
     ∷ eqb (quarters bg.image_h) 0
     ∷ eqb (quarters bg.frame_w) 0
@@ -62,8 +62,8 @@ objectFaults bg =
     ∷ []
 
 -- D 4.5, R 420–426: the conditions in D's order
-unfoldable pub copyFaults : ObjBg → List Bool
-copyFaults bg =
+unfoldable pub copy_faults : ObjBg → List Bool
+copy_faults bg =
     not (eqb bg.image_load 0xfff4)
     ∷ ltb bg.tmem_h 4
     ∷ ltb (quarters bg.image_w) 4
@@ -74,16 +74,16 @@ copyFaults bg =
     ∷ []
 
 -- a check: the verdict where the test holds, else what comes after
-abbrev pub refusedBy : Bool → Verdict → Checked → Checked
-refusedBy true v rest = checked.Refused v
-refusedBy false v rest = rest
+abbrev pub refused_by : Bool → Verdict → Checked → Checked
+refused_by true v rest = checked.Refused v
+refused_by false v rest = rest
 
 -- D "1 to 5 are tried in this order", for pointers of p bytes
-unfoldable pub objectOf : Bool → ObjBg → Checked
-objectOf true bg = refusedBy (any (objectFaults bg)) verdict.Object (refusedBy (any (copyFaults bg)) verdict.Copy (checked.Copy bg))
-objectOf false bg = refusedBy (any (objectFaults bg)) verdict.Object (checked.Scaled bg)
+unfoldable pub object_of : Bool → ObjBg → Checked
+object_of true bg = refused_by (any (object_faults bg)) verdict.Object (refused_by (any (copy_faults bg)) verdict.Copy (checked.Copy bg))
+object_of false bg = refused_by (any (object_faults bg)) verdict.Object (checked.Scaled bg)
 
-unfoldable pub checkedOf : ℕ → List ℕ → ℕ → Scissor → Checked
-checkedOf p bs opcode s =
-    refusedBy (opcodeBad opcode) verdict.Opcode
-    (refusedBy (short p opcode bs) verdict.Short (refusedBy (scissorBad s) verdict.Scissor (objectOf (copies opcode) (decode p (copies opcode) bs))))
+unfoldable pub checked_of : ℕ → List ℕ → ℕ → Scissor → Checked
+checked_of p bs opcode s =
+    refused_by (opcode_bad opcode) verdict.Opcode
+    (refused_by (short p opcode bs) verdict.Short (refused_by (scissor_bad s) verdict.Scissor (object_of (copies opcode) (decode p (copies opcode) bs))))

@@ -7,21 +7,21 @@ use Rattle.object.specs.declared.types.Checked.{Checked}
 use Rattle.object.specs.declared.types.Checked.TheVariants as checked
 use Rattle.measures.specs.Measure.{quarters}
 use Rattle.measures.specs.Range.{Below, Within}
-use Rattle.checks.specs.Check.{checkedOf}
+use Rattle.checks.specs.Check.{checked_of}
 
 -- the ranges of the fields that a plan computes with
 pub record InRange (bg : ObjBg) : Type 0 where
-  pub image-x : Below 16 bg.image_x.0
-  pub image-w : Below 16 bg.image_w.0
-  pub frame-x : Within 15 bg.frame_x.0
-  pub frame-w : Below 16 bg.frame_w.0
-  pub image-y : Below 16 bg.image_y.0
-  pub image-h : Below 16 bg.image_h.0
-  pub frame-y : Within 15 bg.frame_y.0
-  pub frame-h : Below 16 bg.frame_h.0
-  pub scale-w : bg.scale_w.0 ≤ 65535
-  pub scale-h : bg.scale_h.0 ≤ 65535
-  pub image-y-orig : Within 31 bg.image_y_orig.0
+  pub image_x : Below 16 bg.image_x.0
+  pub image_w : Below 16 bg.image_w.0
+  pub frame_x : Within 15 bg.frame_x.0
+  pub frame_w : Below 16 bg.frame_w.0
+  pub image_y : Below 16 bg.image_y.0
+  pub image_h : Below 16 bg.image_h.0
+  pub frame_y : Within 15 bg.frame_y.0
+  pub frame_h : Below 16 bg.frame_h.0
+  pub scale_w : bg.scale_w.0 ≤ 65535
+  pub scale_h : bg.scale_h.0 ≤ 65535
+  pub image_y_orig : Within 31 bg.image_y_orig.0
 
 -- the scissor's edges, after check 3
 pub record EdgesIn (s : Scissor) : Type 0 where
@@ -36,15 +36,15 @@ pub record Passed (bg : ObjBg) (s : Scissor) : Type 0 where
   pub edges : EdgesIn s
   pub siz : bg.image_siz ≤ 3
   pub fmt : bg.image_fmt ≤ 4
-  pub image-w : 1 ≤ quarters bg.image_w
-  pub image-h : 1 ≤ quarters bg.image_h
-  pub frame-w : 1 ≤ quarters bg.frame_w
-  pub frame-h : 1 ≤ quarters bg.frame_h
+  pub image_w : 1 ≤ quarters bg.image_w
+  pub image_h : 1 ≤ quarters bg.image_h
+  pub frame_w : 1 ≤ quarters bg.frame_w
+  pub frame_h : 1 ≤ quarters bg.frame_h
 
 -- and check 5
 pub record PassedCopy (bg : ObjBg) (s : Scissor) : Type 0 where
   pub passed : Passed bg s
-  pub tmem-h : 4 ≤ bg.tmem_h
+  pub tmem_h : 4 ≤ bg.tmem_h
   pub columns : 4 ≤ quarters bg.image_w
   pub rows : 4 ≤ quarters bg.image_h
   pub flip : bg.image_flip ≤ 1
@@ -52,16 +52,16 @@ pub record PassedCopy (bg : ObjBg) (s : Scissor) : Type 0 where
 -- a scaled object's scales are at least 1
 pub record PassedScaled (bg : ObjBg) (s : Scissor) : Type 0 where
   pub passed : Passed bg s
-  pub scale-w : 1 ≤ bg.scale_w.0
-  pub scale-h : 1 ≤ bg.scale_h.0
+  pub scale_w : 1 ≤ bg.scale_w.0
+  pub scale_h : 1 ≤ bg.scale_h.0
 
 -- by what the checks gave
-abbrev pub known_of : Scissor → Checked → Type 0
-known_of s (checked.Copy bg) = PassedCopy bg s
-known_of s (checked.Scaled bg) = PassedScaled bg s
-known_of s (checked.Refused v) = Unit {0}
+abbrev pub KnownOf : Scissor → Checked → Type 0
+KnownOf s (checked.Copy bg) = PassedCopy bg s
+KnownOf s (checked.Scaled bg) = PassedScaled bg s
+KnownOf s (checked.Refused v) = Unit {0}
 
 -- pointers are of 4 bytes
 pub record CheckedIs (bs : List ℕ) (opcode : ℕ) (s : Scissor) (r : Checked) : Type 0 where
-  pub is : r ≡ checkedOf 4 bs opcode s
-  pub known : known_of s r
+  pub is : r ≡ checked_of 4 bs opcode s
+  pub known : KnownOf s r

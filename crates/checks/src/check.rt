@@ -1,6 +1,6 @@
 // The checks of a request, in the verdicts' order.
 ghost use Rattle.std.specs.Prelude.{◌≡◌, ◌<◌, ◌^◌, ltb};
-ghost use Rattle.checks.specs.Check.{verdictNumber, any, opcodeBad, edgeBad, scissorBad, objectFaults, copyFaults, refusedBy, objectOf};
+ghost use Rattle.checks.specs.Check.{verdict_number, any, opcode_bad, edge_bad, scissor_bad, object_faults, copy_faults, refused_by, object_of};
 ghost use Rattle.checks.specs.Known.{CheckedIs};
 
 use measures::{quarters, strip_lines, texels};
@@ -10,7 +10,7 @@ use object::{Checked, Decoded, ObjBg, Scissor, Verdict, decode_obj_bg};
 const POINTER: usize = 4;
 
 pub fn number(v: Verdict) -> u64
-    ensures { result ≡ verdictNumber v }
+    ensures { result ≡ verdict_number v }
 {
     match v {
         Verdict::Finished => 0,
@@ -28,25 +28,25 @@ pub fn number(v: Verdict) -> u64
 }
 
 fn opcode_bad(opcode: u8) -> bool
-    ensures { result ≡ opcodeBad opcode }
+    ensures { result ≡ opcode_bad opcode }
 {
     !((opcode == 9) | (opcode == 10))
 }
 
 fn edge_bad(edge: i32) -> bool
-    ensures { result ≡ edgeBad edge }
+    ensures { result ≡ edge_bad edge }
 {
     (edge < 0) | (1023 < edge)
 }
 
 fn scissor_bad(s: Scissor) -> bool
-    ensures { result ≡ scissorBad s }
+    ensures { result ≡ scissor_bad s }
 {
     edge_bad(s.ulx) | edge_bad(s.uly) | edge_bad(s.lrx) | edge_bad(s.lry)
 }
 
 fn object_bad(bg: ObjBg) -> bool
-    ensures { result ≡ any (objectFaults bg) }
+    ensures { result ≡ any (object_faults bg) }
 {
     (quarters(bg.image_w) == 0)
         | (quarters(bg.image_h) == 0)
@@ -71,7 +71,7 @@ fn flip_bad(flip: u16) -> bool
 }
 
 fn copy_bad(bg: ObjBg) -> bool
-    ensures { result ≡ any (copyFaults bg) }
+    ensures { result ≡ any (copy_faults bg) }
 {
     let product = (wide(bg.tmem_size) << 16) | wide(bg.tmem_load_sh);
     (bg.image_load != 0xfff4)
@@ -84,7 +84,7 @@ fn copy_bad(bg: ObjBg) -> bool
 }
 
 fn refused_by(test: bool, verdict: Verdict, rest: Checked) -> Checked
-    ensures { result ≡ refusedBy test verdict rest }
+    ensures { result ≡ refused_by test verdict rest }
 {
     if test {
         Checked::Refused(verdict)
@@ -94,7 +94,7 @@ fn refused_by(test: bool, verdict: Verdict, rest: Checked) -> Checked
 }
 
 fn object_checked(copy: bool, bg: ObjBg) -> Checked
-    ensures { result ≡ objectOf copy bg }
+    ensures { result ≡ object_of copy bg }
 {
     if object_bad(bg) {
         return Checked::Refused(Verdict::Object);

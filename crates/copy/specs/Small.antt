@@ -4,7 +4,7 @@ use Rattle.std.specs.Prelude.{◌≡◌, refl, Bool, true, false, cond, ℕ, ◌
 use Rattle.std.proofs.Common.{arith}
 use Rattle.load_tile.specs.declared.load.LoadRequest.{LoadRequest}
 use Rattle.load_tile.specs.declared.load.LoadRequest.TheVariants as request
-use Rattle.load_tile.specs.Load.{rowsIn}
+use Rattle.load_tile.specs.Load.{rows_in_request}
 use Rattle.load_tile.specs.Rows.{rows_in}
 use Rattle.plan.specs.Sound.{SoundCopy, Narrow, EntryIn}
 use Rattle.copy.specs.declared.types.Area.{Area}
@@ -15,14 +15,14 @@ use Rattle.copy.specs.declared.types.Stage.TheVariants as stage
 use Rattle.copy.specs.declared.types.Place.{Place}
 use Rattle.copy.specs.declared.types.CopyNext.{CopyNext}
 use Rattle.copy.specs.declared.types.CopyNext.TheVariants as next
-use Rattle.copy.specs.Walk.{soundAt, tileEntry, tile0Entry, sizeEntry, areaOf, requestIn, dueEntry, tooBig, tile7Next, loadNext, stripNext, copyNextOf}
+use Rattle.copy.specs.Walk.{SoundAt, tile_entry, tile0_entry, size_entry, area_of, request_in, due_entry, too_big, tile7_next, load_next, strip_next, copy_next_of}
 
 -- the entry that is given, and the size that a refused load has set
-abbrev pub nextIn : CopyNext → Type 0
-nextIn (next.Entry e s p) = EntryIn e
-nextIn next.TooBig = Unit {0}
-nextIn (next.Overflow e) = Narrow e
-nextIn next.Finished = Unit {0}
+abbrev pub NextIn : CopyNext → Type 0
+NextIn (next.Entry e s p) = EntryIn e
+NextIn next.TooBig = Unit {0}
+NextIn (next.Overflow e) = Narrow e
+NextIn next.Finished = Unit {0}
 
 -- a load's bounds
 record AreaIn (a : Area) : Type 0 where
@@ -31,11 +31,11 @@ record AreaIn (a : Area) : Type 0 where
   pub lrs : a.lrs ≤ 65535
   pub lrt : a.lrt ≤ 65535
 
-area_in : (p : Place) → AreaIn (areaOf p)
+area_in : (p : Place) → AreaIn (area_of p)
 area_in p = record { uls = omega arith; ult = omega arith; lrs = omega arith; lrt = omega arith }
 
-tile-in : (p : Place) (index cms masks : ℕ) → SoundCopy p.copy → cms ≤ 255 → masks ≤ 255 → index ≡ cond (eqb index 7) 7 0 → EntryIn (tileEntry p index cms masks)
-tile-in p index cms masks s h k i =
+tile_in : (p : Place) (index cms masks : ℕ) → SoundCopy p.copy → cms ≤ 255 → masks ≤ 255 → index ≡ cond (eqb index 7) 7 0 → EntryIn (tile_entry p index cms masks)
+tile_in p index cms masks s h k i =
     record {
       rows = omega arith;
       line = omega arith;
@@ -47,37 +47,37 @@ chosen : (t : Bool) (n : ℕ) → n ≤ 255 → cond t n 0 ≤ 255
 chosen true n h = h
 chosen false n h = omega arith
 
-tile7-in : (t : Bool) (p : Place) → SoundCopy p.copy → nextIn (tile7Next t p)
-unfolding tile7Next
-tile7-in true p s = tt
-tile7-in false p s = tile-in p 7 0 0 s (omega arith) (omega arith) refl
+tile7_in : (t : Bool) (p : Place) → SoundCopy p.copy → NextIn (tile7_next t p)
+unfolding tile7_next
+tile7_in true p s = tt
+tile7_in false p s = tile_in p 7 0 0 s (omega arith) (omega arith) refl
 
-tile0-in : (p : Place) → SoundCopy p.copy → EntryIn (tile0Entry p)
-tile0-in p s = tile-in p 0 _ _ s (chosen p.copy.flip 1 (omega arith)) (chosen p.copy.flip 15 (omega arith)) refl
+tile0_in : (p : Place) → SoundCopy p.copy → EntryIn (tile0_entry p)
+tile0_in p s = tile_in p 0 _ _ s (chosen p.copy.flip 1 (omega arith)) (chosen p.copy.flip 15 (omega arith)) refl
 
-size_in : (p : Place) → EntryIn (sizeEntry p)
+size_in : (p : Place) → EntryIn (size_entry p)
 size_in p = record { rows = omega arith; line = omega arith; narrow = (omega arith, (omega arith, (omega arith, omega arith))); names = refl }
 
-load-in : (q : LoadRequest) (a : Area) (p : Place) → rowsIn q ≤ 16384 → AreaIn a → nextIn (loadNext q a p)
-unfolding loadNext
-load-in (request.Load words rows stride start length) a p h k = record { rows = h; line = omega arith; narrow = (k.uls, (k.ult, (k.lrs, k.lrt))); names = refl }
-load-in request.Overflow a p h k = (k.uls, (k.ult, (k.lrs, k.lrt)))
+load_in : (q : LoadRequest) (a : Area) (p : Place) → rows_in_request q ≤ 16384 → AreaIn a → NextIn (load_next q a p)
+unfolding load_next
+load_in (request.Load words rows stride start length) a p h k = record { rows = h; line = omega arith; narrow = (k.uls, (k.ult, (k.lrs, k.lrt))); names = refl }
+load_in request.Overflow a p h k = (k.uls, (k.ult, (k.lrs, k.lrt)))
 
-due_in : (d : Due) (p : Place) → EntryIn (dueEntry d p)
+due_in : (d : Due) (p : Place) → EntryIn (due_entry d p)
 due_in due.Image p = record { rows = omega arith; line = omega arith; narrow = tt; names = tt }
 due_in due.Rect p = record { rows = omega arith; line = omega arith; narrow = tt; names = tt }
 
-strip-in : (t u : Bool) (d : Due) (p : Place) → nextIn (stripNext t u d p)
-unfolding stripNext
-strip-in true u d p = due_in d p
-strip-in false true d p = due_in d p
-strip-in false false d p = due_in d p
+strip_in : (t u : Bool) (d : Due) (p : Place) → NextIn (strip_next t u d p)
+unfolding strip_next
+strip_in true u d p = due_in d p
+strip_in false true d p = due_in d p
+strip_in false false d p = due_in d p
 
-pub next-in : (s : Stage) (p : Place) → soundAt s p → nextIn (copyNextOf s p)
-unfolding copyNextOf
-next-in (stage.Strip d) p h = strip-in _ _ d p
-next-in stage.Tile7 p h = tile7-in (tooBig p) p h.copy
-next-in stage.Tile0 p h = tile0-in p h.copy
-next-in stage.Size p h = size_in p
-next-in stage.Load p h = load-in (requestIn p.copy (areaOf p)) (areaOf p) p (rows_in _ _ _ _ _ _ _ (omega arith)) (area_in p)
-next-in stage.Done p h = tt
+pub next_in : (s : Stage) (p : Place) → SoundAt s p → NextIn (copy_next_of s p)
+unfolding copy_next_of
+next_in (stage.Strip d) p h = strip_in _ _ d p
+next_in stage.Tile7 p h = tile7_in (too_big p) p h.copy
+next_in stage.Tile0 p h = tile0_in p h.copy
+next_in stage.Size p h = size_in p
+next_in stage.Load p h = load_in (request_in p.copy (area_of p)) (area_of p) p (rows_in _ _ _ _ _ _ _ (omega arith)) (area_in p)
+next_in stage.Done p h = tt

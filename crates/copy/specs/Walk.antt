@@ -3,14 +3,14 @@
 use Rattle.std.specs.Prelude.{◌≡◌, Bool, true, false, cond, [], ◌∷◌, ℕ, ◌+◌, ◌-◌, ◌*◌, ◌%◌, ◌^◌, ◌<◌, ltb, ℤ, pos, neg_ℤ}
 use Rattle.signed.specs.Cast.{i16}
 use Rattle.object.specs.declared.types.Verdict.TheVariants as verdict
-use Rattle.measures.specs.Measure.{quarters, ofTexels, rowsHigh}
+use Rattle.measures.specs.Measure.{quarters, of_texels, rows_high}
 use Rattle.load_tile.specs.declared.load.LoadRequest.{LoadRequest}
 use Rattle.load_tile.specs.declared.load.LoadRequest.TheVariants as request
-use Rattle.load_tile.specs.Load.{requestOf}
+use Rattle.load_tile.specs.Load.{request_of}
 use Rattle.plan.specs.declared.types.Copy.{Copy}
 use Rattle.plan.specs.declared.types.Entry.{Entry}
 use Rattle.plan.specs.declared.types.Entry.TheVariants as entry
-use Rattle.plan.specs.Copy.{field, bound, stripOf, stripRow, stripHeight}
+use Rattle.plan.specs.Copy.{field, bound, strip_of, strip_row_of, strip_height_of}
 use Rattle.plan.specs.Next.{Next}
 use Rattle.plan.specs.Next.Next.{give, over}
 use Rattle.plan.specs.Sound.{SoundCopy}
@@ -27,12 +27,12 @@ use Rattle.strips.specs.Strip.{Bounds, Rows}
 -- ---- where a walk stands
 
 -- at cell x of the row of strips at line y
-abbrev pub placeAt : Copy → (x y sy height : ℕ) → Place
-placeAt c x y sy height = record { copy = c; x = x; y = y; sy = sy; strip_height = height; strip = stripOf c x }
+abbrev pub place_at : Copy → (x y sy height : ℕ) → Place
+place_at c x y sy height = record { copy = c; x = x; y = y; sy = sy; strip_height = height; strip = strip_of c x }
 
 -- at the first cell of the row of strips at line y
 abbrev pub row_at : Copy → ℕ → Place
-row_at c y = placeAt c 0 y (stripRow c y) (stripHeight c y)
+row_at c y = place_at c 0 y (strip_row_of c y) (strip_height_of c y)
 
 -- before the first row: nothing lies to its right, and the row below is at line 0
 abbrev pub start_at : Copy → Place
@@ -60,32 +60,32 @@ pub record SoundStart (p : Place) : Type 0 where
   pub is : p ≡ start_at p.copy
 
 -- what a step asks, by its stage
-abbrev pub soundAt : Stage → Place → Type 0
-soundAt (stage.Strip due.Image) p = SoundStart p
-soundAt (stage.Strip due.Rect) p = SoundPlace p
-soundAt stage.Tile7 p = SoundPlace p
-soundAt stage.Tile0 p = SoundPlace p
-soundAt stage.Size p = SoundPlace p
-soundAt stage.Load p = SoundPlace p
-soundAt stage.Done p = SoundPlace p
+abbrev pub SoundAt : Stage → Place → Type 0
+SoundAt (stage.Strip due.Image) p = SoundStart p
+SoundAt (stage.Strip due.Rect) p = SoundPlace p
+SoundAt stage.Tile7 p = SoundPlace p
+SoundAt stage.Tile0 p = SoundPlace p
+SoundAt stage.Size p = SoundPlace p
+SoundAt stage.Load p = SoundPlace p
+SoundAt stage.Done p = SoundPlace p
 
--- ---- the entries, R 454–459 and 494–549 as `copyPlan` and `stripEntries` have them
+-- ---- the entries, R 454–459 and 494–549 as `copy_plan` and `strip_entries` have them
 
-abbrev pub imageEntry : Copy → Entry
-imageEntry c = entry.Image c.fmt c.siz (field c) c.address
+abbrev pub image_entry : Copy → Entry
+image_entry c = entry.Image c.fmt c.siz (field c) c.address
 
-abbrev pub tileEntry : Place → (index cms masks : ℕ) → Entry
-tileEntry p index cms masks = entry.Tile index p.copy.fmt p.copy.siz (p.strip.line % 2 ^ 16) 0 p.copy.palette cms 0 masks 0
+abbrev pub tile_entry : Place → (index cms masks : ℕ) → Entry
+tile_entry p index cms masks = entry.Tile index p.copy.fmt p.copy.siz (p.strip.line % 2 ^ 16) 0 p.copy.palette cms 0 masks 0
 
-abbrev pub tile0Entry : Place → Entry
-tile0Entry p = tileEntry p 0 (cond p.copy.flip 1 0) (cond p.copy.flip 15 0)
+abbrev pub tile0_entry : Place → Entry
+tile0_entry p = tile_entry p 0 (cond p.copy.flip 1 0) (cond p.copy.flip 15 0)
 
-abbrev pub sizeEntry : Place → Entry
-sizeEntry p = entry.Size 0 0 0 (bound (p.strip.load_width - 1)) (bound (p.strip_height - 1))
+abbrev pub size_entry : Place → Entry
+size_entry p = entry.Size 0 0 0 (bound (p.strip.load_width - 1)) (bound (p.strip_height - 1))
 
 -- the bounds of the load into tile 7, and what it asks for
-abbrev pub areaOf : Place → Area
-areaOf p =
+abbrev pub area_of : Place → Area
+area_of p =
     record {
       uls = bound p.strip.aligned_left;
       ult = bound p.sy;
@@ -93,52 +93,52 @@ areaOf p =
       lrt = bound (p.sy + p.strip_height - 1);
     }
 
-abbrev pub requestIn : Copy → Area → LoadRequest
-requestIn c a = requestOf c.siz (field c) c.address a.uls a.ult a.lrs a.lrt
+abbrev pub request_in : Copy → Area → LoadRequest
+request_in c a = request_of c.siz (field c) c.address a.uls a.ult a.lrs a.lrt
 
 -- R 531 `if flip { -load_width } else { offset } * 32`
-abbrev pub firstTexel : Bool → (load-width offset : ℕ) → ℤ
-firstTexel flip load-width offset = i16 (rowsHigh (cond flip (neg_ℤ (pos load-width)) (pos offset))).0
+abbrev pub first_texel : Bool → (load_width offset : ℕ) → ℤ
+first_texel flip load_width offset = i16 (rows_high (cond flip (neg_ℤ (pos load_width)) (pos offset))).0
 
-abbrev pub rectEntry : Place → Entry
-rectEntry p =
-    entry.Rect 0 (quarters p.copy.left + ofTexels p.x) (quarters p.copy.top + ofTexels p.y) (quarters p.copy.left + ofTexels (p.x + p.strip.strip_width - 1))
-    (quarters p.copy.top + ofTexels (p.y + p.strip_height - 1))
-    (firstTexel p.copy.flip p.strip.load_width p.strip.offset) (pos 0) (pos 0x1000) (pos 0x400) p.sy
+abbrev pub rect_entry : Place → Entry
+rect_entry p =
+    entry.Rect 0 (quarters p.copy.left + of_texels p.x) (quarters p.copy.top + of_texels p.y) (quarters p.copy.left + of_texels (p.x + p.strip.strip_width - 1))
+    (quarters p.copy.top + of_texels (p.y + p.strip_height - 1))
+    (first_texel p.copy.flip p.strip.load_width p.strip.offset) (pos 0) (pos 0x1000) (pos 0x400) p.sy
 
 -- what is given before a strip is found
-abbrev pub dueEntry : Due → Place → Entry
-dueEntry due.Image p = imageEntry p.copy
-dueEntry due.Rect p = rectEntry p
+abbrev pub due_entry : Due → Place → Entry
+due_entry due.Image p = image_entry p.copy
+due_entry due.Rect p = rect_entry p
 
 -- ---- the answers, by stage
 
 -- D verdict 7 "a copy strip's line × height exceeds capacity"
-abbrev pub tooBig : Place → Bool
-tooBig p = ltb p.copy.capacity (p.strip.line * p.strip_height)
+abbrev pub too_big : Place → Bool
+too_big p = ltb p.copy.capacity (p.strip.line * p.strip_height)
 
-unfoldable pub tile7Next : Bool → Place → CopyNext
-tile7Next true p = next.TooBig
-tile7Next false p = next.Entry (tileEntry p 7 0 0) stage.Tile0 p
+unfoldable pub tile7_next : Bool → Place → CopyNext
+tile7_next true p = next.TooBig
+tile7_next false p = next.Entry (tile_entry p 7 0 0) stage.Tile0 p
 
 -- D verdict 9 "a load refused by 9 has already set tile 7's size"
-unfoldable pub loadNext : LoadRequest → Area → Place → CopyNext
-loadNext (request.Load words rows stride start length) a p = next.Entry (entry.Load 7 a.uls a.ult a.lrs a.lrt words rows stride start length) (stage.Strip due.Rect) p
-loadNext request.Overflow a p = next.Overflow (entry.Size 7 a.uls a.ult a.lrs a.lrt)
+unfoldable pub load_next : LoadRequest → Area → Place → CopyNext
+load_next (request.Load words rows stride start length) a p = next.Entry (entry.Load 7 a.uls a.ult a.lrs a.lrt words rows stride start length) (stage.Strip due.Rect) p
+load_next request.Overflow a p = next.Overflow (entry.Size 7 a.uls a.ult a.lrs a.lrt)
 
 -- the strip after this one: in the row, in the next row, or none
-unfoldable pub stripNext : (in_row in_frame : Bool) → Due → Place → CopyNext
-stripNext true u d p = next.Entry (dueEntry d p) stage.Tile7 (placeAt p.copy (p.x + p.strip.strip_width) p.y p.sy p.strip_height)
-stripNext false true d p = next.Entry (dueEntry d p) stage.Tile7 (row_at p.copy (p.y + p.strip_height))
-stripNext false false d p = next.Entry (dueEntry d p) stage.Done p
+unfoldable pub strip_next : (in_row in_frame : Bool) → Due → Place → CopyNext
+strip_next true u d p = next.Entry (due_entry d p) stage.Tile7 (place_at p.copy (p.x + p.strip.strip_width) p.y p.sy p.strip_height)
+strip_next false true d p = next.Entry (due_entry d p) stage.Tile7 (row_at p.copy (p.y + p.strip_height))
+strip_next false false d p = next.Entry (due_entry d p) stage.Done p
 
-unfoldable pub copyNextOf : Stage → Place → CopyNext
-copyNextOf (stage.Strip d) p = stripNext (ltb (p.x + p.strip.strip_width) p.copy.width) (ltb (p.y + p.strip_height) p.copy.height) d p
-copyNextOf stage.Tile7 p = tile7Next (tooBig p) p
-copyNextOf stage.Tile0 p = next.Entry (tile0Entry p) stage.Size p
-copyNextOf stage.Size p = next.Entry (sizeEntry p) stage.Load p
-copyNextOf stage.Load p = loadNext (requestIn p.copy (areaOf p)) (areaOf p) p
-copyNextOf stage.Done p = next.Finished
+unfoldable pub copy_next_of : Stage → Place → CopyNext
+copy_next_of (stage.Strip d) p = strip_next (ltb (p.x + p.strip.strip_width) p.copy.width) (ltb (p.y + p.strip_height) p.copy.height) d p
+copy_next_of stage.Tile7 p = tile7_next (too_big p) p
+copy_next_of stage.Tile0 p = next.Entry (tile0_entry p) stage.Size p
+copy_next_of stage.Size p = next.Entry (size_entry p) stage.Load p
+copy_next_of stage.Load p = load_next (request_in p.copy (area_of p)) (area_of p) p
+copy_next_of stage.Done p = next.Finished
 
 -- ---- the same as one step of a walk
 
@@ -146,8 +146,8 @@ pub record CopyWalk : Type 0 where
   pub stage : Stage
   pub place : Place
 
-abbrev pub asNext : CopyNext → Next CopyWalk
-asNext (next.Entry e s p) = give e (record { stage = s; place = p })
-asNext next.TooBig = over [] verdict.TooBig
-asNext (next.Overflow e) = over (e ∷ []) verdict.Address
-asNext next.Finished = over [] verdict.Finished
+abbrev pub as_next : CopyNext → Next CopyWalk
+as_next (next.Entry e s p) = give e (record { stage = s; place = p })
+as_next next.TooBig = over [] verdict.TooBig
+as_next (next.Overflow e) = over (e ∷ []) verdict.Address
+as_next next.Finished = over [] verdict.Finished

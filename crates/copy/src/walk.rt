@@ -1,10 +1,10 @@
 // The copy walk, one entry a step: the texture image, then a strip's five entries, strip after strip.
 ghost use Rattle.std.specs.Prelude.{◌≡◌, ◌+◌, ◌-◌, ◌%◌, ◌^◌, ◌≤◌, ◌<◌};
-ghost use Rattle.measures.specs.Measure.{quarters, ofTexels};
+ghost use Rattle.measures.specs.Measure.{quarters, of_texels};
 ghost use Rattle.measures.specs.Range.{Below};
 ghost use Rattle.plan.specs.Copy.{field, bound};
 ghost use Rattle.plan.specs.Sound.{SoundCopy};
-ghost use Rattle.copy.specs.Walk.{placeAt, start_at, SoundPlace, soundAt, imageEntry, tileEntry, tile0Entry, sizeEntry, areaOf, requestIn, firstTexel, rectEntry, dueEntry, tooBig, loadNext, copyNextOf};
+ghost use Rattle.copy.specs.Walk.{place_at, start_at, SoundPlace, SoundAt, image_entry, tile_entry, tile0_entry, size_entry, area_of, request_in, first_texel, rect_entry, due_entry, too_big, load_next, copy_next_of};
 ghost use Rattle.copy.specs.declared.types.Stage.TheVariants as stage;
 
 use crate::types::{Area, CopyNext, Due, Place, Stage};
@@ -17,7 +17,7 @@ use strips::{strip_height, strip_of, strip_row};
 pub fn place_at(c: Copy, x: u64, y: u64, sy: u64, strip_height: u64) -> Place
     requires sound_copy { SoundCopy c }
     requires x_lt_width { x < c.width }
-    ensures { result ≡ placeAt c x y sy strip_height }
+    ensures { result ≡ place_at c x y sy strip_height }
 {
     let strip = strip_of(c, x);
     Place {
@@ -61,7 +61,7 @@ fn width_field(image_width: u64) -> u16
 
 fn image_entry(c: Copy) -> Entry
     requires { 1 ≤ c.image_width }
-    ensures { result ≡ imageEntry c }
+    ensures { result ≡ image_entry c }
 {
     let width = width_field(c.image_width);
     Entry::Image {
@@ -73,7 +73,7 @@ fn image_entry(c: Copy) -> Entry
 }
 
 fn tile_entry(p: Place, index: u64, cms: u64, masks: u64) -> Entry
-    ensures { result ≡ tileEntry p index cms masks }
+    ensures { result ≡ tile_entry p index cms masks }
 {
     let c = p.copy;
     let s = p.strip;
@@ -93,7 +93,7 @@ fn tile_entry(p: Place, index: u64, cms: u64, masks: u64) -> Entry
 }
 
 fn tile0_entry(p: Place) -> Entry
-    ensures { result ≡ tile0Entry p }
+    ensures { result ≡ tile0_entry p }
 {
     let c = p.copy;
     if c.flip {
@@ -114,7 +114,7 @@ fn bound_of(texels: u64) -> u16
 
 fn size_entry(p: Place) -> Entry
     requires { SoundPlace p }
-    ensures { result ≡ sizeEntry p }
+    ensures { result ≡ size_entry p }
 {
     let s = p.strip;
     let lrs = bound_of(s.load_width - 1);
@@ -130,7 +130,7 @@ fn size_entry(p: Place) -> Entry
 
 pub fn area_of(p: Place) -> Area
     requires { SoundPlace p }
-    ensures { result ≡ areaOf p }
+    ensures { result ≡ area_of p }
 {
     let s = p.strip;
     let uls = bound_of(s.aligned_left);
@@ -143,7 +143,7 @@ pub fn area_of(p: Place) -> Area
 // A flipped strip starts at the end of what was loaded, and runs back.
 fn first_texel(flip: bool, load_width: u64, offset: u64) -> i64
     requires { (load_width ≤ 65535) × (offset ≤ 65535) }
-    ensures { result ≡ firstTexel flip load_width offset }
+    ensures { result ≡ first_texel flip load_width offset }
 {
     if flip {
         let s = measures::of_rows(-(load_width as i64));
@@ -157,7 +157,7 @@ fn first_texel(flip: bool, load_width: u64, offset: u64) -> i64
 // Where a cell lies that is a number of cells after an edge.
 fn cell_at(edge: Quarters, cells: u64) -> u64
     requires { (Below 12 edge.0) × (cells ≤ 1023) }
-    ensures { result ≡ quarters edge + ofTexels cells }
+    ensures { result ≡ quarters edge + of_texels cells }
 {
     let after = measures::of_texels(cells as i64);
     (edge.0 + after.0) as u64
@@ -166,7 +166,7 @@ fn cell_at(edge: Quarters, cells: u64) -> u64
 // The ends are the last cells, which the rectangle includes.
 fn rect_entry(p: Place) -> Entry
     requires { SoundPlace p }
-    ensures { result ≡ rectEntry p }
+    ensures { result ≡ rect_entry p }
 {
     let c = p.copy;
     let s = p.strip;
@@ -188,17 +188,17 @@ fn rect_entry(p: Place) -> Entry
 // The strip does not fit texture memory.
 pub fn too_big(p: Place) -> bool
     requires { SoundPlace p }
-    ensures { result ≡ tooBig p }
+    ensures { result ≡ too_big p }
 {
     let c = p.copy;
     let s = p.strip;
     c.capacity < s.line * p.strip_height
 }
 
-#[tactic(auto, unfolding(crate::specs::Walk::tile7Next, crate::specs::Walk::copyNextOf))]
+#[tactic(auto, unfolding(crate::specs::Walk::tile7_next, crate::specs::Walk::copy_next_of))]
 fn tile7_next(p: Place) -> CopyNext
     requires { SoundPlace p }
-    ensures { result ≡ copyNextOf stage.Tile7 p }
+    ensures { result ≡ copy_next_of stage.Tile7 p }
 {
     if too_big(p) {
         return CopyNext::TooBig;
@@ -208,9 +208,9 @@ fn tile7_next(p: Place) -> CopyNext
 }
 
 // The answer to what the load asked for.
-#[tactic(auto, unfolding(crate::specs::Walk::loadNext))]
+#[tactic(auto, unfolding(crate::specs::Walk::load_next))]
 fn loaded(request: LoadRequest, a: Area, p: Place) -> CopyNext
-    ensures { result ≡ loadNext request a p }
+    ensures { result ≡ load_next request a p }
 {
     match request {
         LoadRequest::Load {
@@ -250,16 +250,16 @@ fn loaded(request: LoadRequest, a: Area, p: Place) -> CopyNext
 // What a load with these bounds asks for.
 pub fn request_in(c: Copy, a: Area) -> LoadRequest
     requires { SoundCopy c }
-    ensures { result ≡ requestIn c a }
+    ensures { result ≡ request_in c a }
 {
     let width = width_field(c.image_width);
     load_tile::load_request(c.siz as u8, width, c.address, a.uls, a.ult, a.lrs, a.lrt)
 }
 
-#[tactic(auto, unfolding(crate::specs::Walk::copyNextOf))]
+#[tactic(auto, unfolding(crate::specs::Walk::copy_next_of))]
 fn load_next(p: Place) -> CopyNext
     requires { SoundPlace p }
-    ensures { result ≡ copyNextOf stage.Load p }
+    ensures { result ≡ copy_next_of stage.Load p }
 {
     let a = area_of(p);
     let request = request_in(p.copy, a);
@@ -267,8 +267,8 @@ fn load_next(p: Place) -> CopyNext
 }
 
 fn due_entry(due: Due, p: Place) -> Entry
-    requires { soundAt (stage.Strip due) p }
-    ensures { result ≡ dueEntry due p }
+    requires { SoundAt (stage.Strip due) p }
+    ensures { result ≡ due_entry due p }
 {
     match due {
         Due::Image => image_entry(p.copy),
@@ -278,8 +278,8 @@ fn due_entry(due: Due, p: Place) -> Entry
 
 // The strip to the right, the first of the row below, or the end: found here alone, so that the compiler puts it in line.
 fn strip_next(due: Due, p: Place) -> CopyNext
-    requires { soundAt (stage.Strip due) p }
-    ensures { result ≡ copyNextOf (stage.Strip due) p }
+    requires { SoundAt (stage.Strip due) p }
+    ensures { result ≡ copy_next_of (stage.Strip due) p }
 {
     let c = p.copy;
     let s = p.strip;
@@ -303,10 +303,10 @@ fn strip_next(due: Due, p: Place) -> CopyNext
     CopyNext::Entry(entry, Stage::Tile7, place)
 }
 
-#[tactic(auto, unfolding(crate::specs::Walk::copyNextOf))]
+#[tactic(auto, unfolding(crate::specs::Walk::copy_next_of))]
 pub fn copy_next(stage: Stage, place: Place) -> CopyNext
-    requires { soundAt stage place }
-    ensures { result ≡ copyNextOf stage place }
+    requires { SoundAt stage place }
+    ensures { result ≡ copy_next_of stage place }
 {
     match stage {
         Stage::Strip(due) => strip_next(due, place),

@@ -1,11 +1,11 @@
 // A copy plan's end counted ahead, strip by strip with no entry made, so that a host can size its buffer.
 ghost use Rattle.std.specs.Prelude.{◌≡◌, ◌%◌, ◌≤◌};
-ghost use Rattle.plan.specs.Out.{planOut};
-ghost use Rattle.plan.specs.Copy.{copyPlan};
+ghost use Rattle.plan.specs.Out.{plan_out};
+ghost use Rattle.plan.specs.Copy.{copy_plan};
 ghost use Rattle.plan.specs.Run.{end_of};
 ghost use Rattle.plan.specs.Sound.{SoundCopy};
 ghost use Rattle.strips.specs.Frame.{AtMost};
-ghost use Rattle.counting.specs.Count.{wrapColumn, bytes_of, refusedAt};
+ghost use Rattle.counting.specs.Count.{wrap_column, bytes_of, refused_at};
 
 use object::Verdict;
 use plan::{Copy, End, Strip};
@@ -37,7 +37,7 @@ fn refused(c: Copy, s: Strip, sy: u64, strip_height: u64) -> bool
     requires sound_copy { SoundCopy c }
     requires columns { (s.aligned_left ≤ 16383) × ((1 ≤ s.load_width) × (s.load_width ≤ 1038)) }
     requires rows { (sy ≤ 16383) × ((1 ≤ strip_height) × (strip_height ≤ 1024)) }
-    ensures { result ≡ refusedAt c s sy strip_height }
+    ensures { result ≡ refused_at c s sy strip_height }
 {
     let row = bytes_of(c.siz, c.image_width);
     let offset = bytes_of(c.siz, s.aligned_left) + row * sy;
@@ -48,8 +48,8 @@ fn refused(c: Copy, s: Strip, sy: u64, strip_height: u64) -> bool
 // The row walk and the column walk: the first strip that is refused ends both at once. Every strip but the first of its row starts at image column `wrap`.
 fn count_strips(c: Copy, wrap: u64) -> End
     requires sound_copy { SoundCopy c }
-    requires wrap_value { wrap ≡ wrapColumn c }
-    ensures { result ≡ end_of (planOut (copyPlan c)) }
+    requires wrap_value { wrap ≡ wrap_column c }
+    ensures { result ≡ end_of (plan_out (copy_plan c)) }
 {
     let first = column_at(c, 0);
     let mut entries: u64 = 1;
@@ -94,7 +94,7 @@ fn count_strips(c: Copy, wrap: u64) -> End
 // The end of a whole copy plan, by a call for each way that a frame runs, so that the compiler knows `wrap` in each.
 pub fn count_entries(c: Copy) -> End
     requires { SoundCopy c }
-    ensures { result ≡ end_of (planOut (copyPlan c)) }
+    ensures { result ≡ end_of (plan_out (copy_plan c)) }
 {
     if c.flip {
         count_strips(c, c.image_width - 1)

@@ -9,52 +9,52 @@ use Rattle.plan.specs.declared.types.Answer.{Answer}
 use Rattle.plan.specs.declared.types.End.{End}
 use Rattle.plan.specs.Request.{Request}
 use Rattle.plan.specs.Whole.{plan_of}
-use Rattle.plan.specs.Demand.{driftOf, stripsOf, AllNear, Apt}
-use Rattle.drift.specs.Prefix.{entriesIn, given_is, first-near}
-use Rattle.drift.specs.Words.{rectsFrom, run-near}
+use Rattle.plan.specs.Demand.{drift_of, strips_of, AllNear, Apt}
+use Rattle.drift.specs.Prefix.{entries_in, given_is, first_near}
+use Rattle.drift.specs.Words.{rects_from, run_near}
 use Rattle.planner.specs.declared.types.Planner.{Planner}
-use Rattle.giving.specs.Host.{endNumbers, runWords, run_end, run-buffer}
-use Rattle.planner.specs.Coming.{Fresh, requestOf}
+use Rattle.giving.specs.Host.{end_numbers, run_words, run_end, run_buffer}
+use Rattle.planner.specs.Coming.{Fresh, request_of}
 use Rattle.runs.specs.Ran.{RanIs}
-use Rattle.request.specs.Host.{hostRequest}
-use Rattle.visorlongan.specs.Host.{left, ranLeft, hostRun}
-use Rattle.demands.specs.Steps.{Steps, StepsAlone, with-bank, answered-is}
+use Rattle.request.specs.Host.{host_request}
+use Rattle.visorlongan.specs.Host.{left, ran_left, host_run}
+use Rattle.demands.specs.Steps.{Steps, StepsAlone, with_bank, answered_is}
 
-module _ (bytes : List ℕ) (opcode : ℕ) (scissor : Scissor) (mode address : ℕ) (apt : Apt (requestOf bytes opcode scissor mode address)) where
+module _ (bytes : List ℕ) (opcode : ℕ) (scissor : Scissor) (mode address : ℕ) (apt : Apt (request_of bytes opcode scissor mode address)) where
   -- every line of every rectangle among the answers of any list of steps
-  pub steps-near : (p : Planner) → Fresh bytes opcode scissor mode address p → {b : Bank} {answered : List Answer} {p' : Planner} {b' : Bank} → Steps p b answered p' b'
-      → AllNear (driftOf (requestOf bytes opcode scissor mode address)) 0 (stripsOf (driftOf (requestOf bytes opcode scissor mode address))) (entriesIn answered)
-  steps-near p f {b} {answered} r =
-      subst (λ (es : List Entry). AllNear (driftOf (requestOf bytes opcode scissor mode address)) 0 (stripsOf (driftOf (requestOf bytes opcode scissor mode address))) es)
-      (sym (ap entriesIn (answered-is bytes opcode scissor mode address p f r) ∙ given_is (length answered) (plan_of (requestOf bytes opcode scissor mode address)).entries _))
-      (first-near (requestOf bytes opcode scissor mode address) apt (length answered))
+  pub steps_near : (p : Planner) → Fresh bytes opcode scissor mode address p → {b : Bank} {answered : List Answer} {p' : Planner} {b' : Bank} → Steps p b answered p' b'
+      → AllNear (drift_of (request_of bytes opcode scissor mode address)) 0 (strips_of (drift_of (request_of bytes opcode scissor mode address))) (entries_in answered)
+  steps_near p f {b} {answered} r =
+      subst (λ (es : List Entry). AllNear (drift_of (request_of bytes opcode scissor mode address)) 0 (strips_of (drift_of (request_of bytes opcode scissor mode address))) es)
+      (sym (ap entries_in (answered_is bytes opcode scissor mode address p f r) ∙ given_is (length answered) (plan_of (request_of bytes opcode scissor mode address)).entries _))
+      (first_near (request_of bytes opcode scissor mode address) apt (length answered))
 
   -- the same of any list of steps without a bank
-  pub alone-near : (p : Planner) → Fresh bytes opcode scissor mode address p → {answered : List Answer} {p' : Planner} → StepsAlone p answered p'
-      → AllNear (driftOf (requestOf bytes opcode scissor mode address)) 0 (stripsOf (driftOf (requestOf bytes opcode scissor mode address))) (entriesIn answered)
-  alone-near p f r = steps-near p f (with-bank r (record { tiles = [] })).1
+  pub alone_near : (p : Planner) → Fresh bytes opcode scissor mode address p → {answered : List Answer} {p' : Planner} → StepsAlone p answered p'
+      → AllNear (drift_of (request_of bytes opcode scissor mode address)) 0 (strips_of (drift_of (request_of bytes opcode scissor mode address))) (entries_in answered)
+  alone_near p f r = steps_near p f (with_bank r (record { tiles = [] })).1
 
   -- every line of every rectangle that a whole run has written, by the end's count of entries
-  pub ran-near : (buf ws out ws' : List ℕ) (r : End) → RanIs bytes opcode scissor mode address buf ws out ws' r
-      → AllNear (driftOf (requestOf bytes opcode scissor mode address)) 0 (stripsOf (driftOf (requestOf bytes opcode scissor mode address))) (rectsFrom r.entries out)
-  ran-near buf ws out ws' r h =
-      let q = requestOf bytes opcode scissor mode address in
+  pub ran_near : (buf ws out ws' : List ℕ) (r : End) → RanIs bytes opcode scissor mode address buf ws out ws' r
+      → AllNear (drift_of (request_of bytes opcode scissor mode address)) 0 (strips_of (drift_of (request_of bytes opcode scissor mode address))) (rects_from r.entries out)
+  ran_near buf ws out ws' r h =
+      let q = request_of bytes opcode scissor mode address in
       let b : Bank = record { tiles = [] } in
-      rw (h.end, h.buffer, run_end (plan_of q) buf ws b, run-buffer (plan_of q) buf ws b) (run-near q apt buf b)
+      rw (h.end, h.buffer, run_end (plan_of q) buf ws b, run_buffer (plan_of q) buf ws b) (run_near q apt buf b)
 
 -- every line of every rectangle in the words that the exported run leaves, by the entries that its end counts
-pub host-near : (object request bank plan end : List ℕ) → Apt (hostRequest object request) → (hostRun object request bank plan end).answer ≡ 0
-    → AllNear (driftOf (hostRequest object request)) 0 (stripsOf (driftOf (hostRequest object request))) (rectsFrom (get_or (hostRun object request bank plan end).end 1 0) (hostRun object request bank plan end).plan)
-unfolding hostRun endNumbers
-host-near object request bank plan end apt = by (eqb (length request) 7 && (eqb (length bank) 136 && eqb (length end) 4))
+pub host_near : (object request bank plan end : List ℕ) → Apt (host_request object request) → (host_run object request bank plan end).answer ≡ 0
+    → AllNear (drift_of (host_request object request)) 0 (strips_of (drift_of (host_request object request))) (rects_from (get_or (host_run object request bank plan end).end 1 0) (host_run object request bank plan end).plan)
+unfolding host_run end_numbers
+host_near object request bank plan end apt = by (eqb (length request) 7 && (eqb (length bank) 136 && eqb (length end) 4))
   where
     q : Request
-    q = hostRequest object request
+    q = host_request object request
 
     b : Bank
     b = record { tiles = [] }
 
-    by : (t : Bool) → (cond t (ranLeft (runWords (plan_of q) plan bank)) (left 1 bank plan end)).answer ≡ 0
-        → AllNear (driftOf q) 0 (stripsOf (driftOf q)) (rectsFrom (get_or (cond t (ranLeft (runWords (plan_of q) plan bank)) (left 1 bank plan end)).end 1 0) (cond t (ranLeft (runWords (plan_of q) plan bank)) (left 1 bank plan end)).plan)
-    by true a = rw (run_end (plan_of q) plan bank b, run-buffer (plan_of q) plan bank b) (run-near q apt plan b)
+    by : (t : Bool) → (cond t (ran_left (run_words (plan_of q) plan bank)) (left 1 bank plan end)).answer ≡ 0
+        → AllNear (drift_of q) 0 (strips_of (drift_of q)) (rects_from (get_or (cond t (ran_left (run_words (plan_of q) plan bank)) (left 1 bank plan end)).end 1 0) (cond t (ran_left (run_words (plan_of q) plan bank)) (left 1 bank plan end)).plan)
+    by true a = rw (run_end (plan_of q) plan bank b, run_buffer (plan_of q) plan bank b) (run_near q apt plan b)
     by false a = absurd (omega arith)

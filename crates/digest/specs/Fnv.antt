@@ -12,13 +12,13 @@ unfoldable pub fnv1a : (hash byte : ℕ) → ℕ
 fnv1a h b = bit_xor h b * prime % 2 ^ 64
 
 -- the low n bytes of a word
-unfoldable pub wordInto : (n word hash : ℕ) → ℕ
-wordInto zero w h = h
-wordInto (suc n) w h = wordInto n w (fnv1a h (w / 2 ^ (8 * n) % 256))
+unfoldable pub word_into : (n word hash : ℕ) → ℕ
+word_into zero w h = h
+word_into (suc n) w h = word_into n w (fnv1a h (w / 2 ^ (8 * n) % 256))
 
-unfoldable pub digestFrom : ℕ → List ℕ → ℕ
-digestFrom h [] = h
-digestFrom h (w ∷ ws) = digestFrom (wordInto 8 w h) ws
+unfoldable pub digest_from : ℕ → List ℕ → ℕ
+digest_from h [] = h
+digest_from h (w ∷ ws) = digest_from (word_into 8 w h) ws
 
-abbrev pub digestOf : List ℕ → ℕ
-digestOf ws = digestFrom basis ws
+abbrev pub digest_of : List ℕ → ℕ
+digest_of ws = digest_from basis ws

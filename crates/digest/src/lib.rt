@@ -2,7 +2,7 @@
 #![tactic(auto)]
 
 ghost use Rattle.std.specs.Prelude.{◌≡◌, ◌*◌, ◌%◌, ◌^◌};
-ghost use Rattle.digest.specs.Fnv.{prime, fnv1a, wordInto, digestFrom, digestOf};
+ghost use Rattle.digest.specs.Fnv.{prime, fnv1a, word_into, digest_from, digest_of};
 
 // The digest of no words.
 pub const BASIS: u64 = 0xcbf2_9ce4_8422_2325;
@@ -24,7 +24,7 @@ fn byte_into(h: u64, b: u64) -> u64
 }
 
 fn word_into(h: u64, w: u64) -> u64
-    ensures { result ≡ wordInto 8 w h }
+    ensures { result ≡ word_into 8 w h }
 {
     let mut hash = h;
     let mut n: u64 = 8;
@@ -37,7 +37,7 @@ fn word_into(h: u64, w: u64) -> u64
 
 // Words after others that have been digested.
 pub fn digest_from(before: u64, words: &[u64]) -> u64
-    ensures { result ≡ digestFrom before words.now }
+    ensures { result ≡ digest_from before words.now }
 {
     let mut hash = before;
     let mut i: usize = 0;
@@ -49,7 +49,7 @@ pub fn digest_from(before: u64, words: &[u64]) -> u64
 }
 
 pub fn digest(words: &[u64]) -> u64
-    ensures { result ≡ digestOf words.now }
+    ensures { result ≡ digest_of words.now }
 {
     digest_from(BASIS, words)
 }

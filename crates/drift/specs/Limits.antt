@@ -5,7 +5,7 @@ use Rattle.plan.specs.Request.{Request}
 use Rattle.plan.specs.declared.types.Entry.{Entry}
 use Rattle.plan.specs.declared.types.Entry.TheVariants.{Image, Tile, Size, Load, Rect}
 use Rattle.plan.specs.Whole.{plan_of}
-use Rattle.plan.specs.Demand.{Drift, driftOf, stripsOf, ahead, Near, AllNear, Apt}
+use Rattle.plan.specs.Demand.{Drift, drift_of, strips_of, ahead, Near, AllNear, Apt}
 use Rattle.drift.specs.Proof.{demand3}
 
 -- every line of every rectangle has R of the scale, its strip's number and its d
@@ -29,9 +29,9 @@ each R f d n [] (Rect i ulx uly lrx lry uls ult dsdx dtdy row ∷ es) a = a
 each R f d n (k ∷ ks) (Rect i ulx uly lrx lry uls ult dsdx dtdy row ∷ es) a = (λ j l. f d.h k (ahead d k row ult n j) (a.0 j l), each R f d (n + (lry - uly) / 4) ks es a.1)
 
 -- D "d .. is at least −(h + 30)"
-pub behind-all : (q : Request) → Apt q → EachLine (λ h k d. neg_ℤ (pos (h + 30)) ≤ℤ d) (driftOf q) 0 (stripsOf (driftOf q)) (plan_of q).entries
-behind-all q a = each (λ h k d. neg_ℤ (pos (h + 30)) ≤ℤ d) (λ h k d n. n.behind) (driftOf q) 0 (stripsOf (driftOf q)) (plan_of q).entries (demand3 q a)
+pub behind_all : (q : Request) → Apt q → EachLine (λ h k d. neg_ℤ (pos (h + 30)) ≤ℤ d) (drift_of q) 0 (strips_of (drift_of q)) (plan_of q).entries
+behind_all q a = each (λ h k d. neg_ℤ (pos (h + 30)) ≤ℤ d) (λ h k d n. n.behind) (drift_of q) 0 (strips_of (drift_of q)) (plan_of q).entries (demand3 q a)
 
 -- D "1,024 × d at most h × (1,024 + k)"
-pub before-all : (q : Request) → Apt q → EachLine (λ h k d. (pos 1024 *ℤ d) ≤ℤ (pos h *ℤ (pos 1024 +ℤ k))) (driftOf q) 0 (stripsOf (driftOf q)) (plan_of q).entries
-before-all q a = each (λ h k d. (pos 1024 *ℤ d) ≤ℤ (pos h *ℤ (pos 1024 +ℤ k))) (λ h k d n. n.before) (driftOf q) 0 (stripsOf (driftOf q)) (plan_of q).entries (demand3 q a)
+pub before_all : (q : Request) → Apt q → EachLine (λ h k d. (pos 1024 *ℤ d) ≤ℤ (pos h *ℤ (pos 1024 +ℤ k))) (drift_of q) 0 (strips_of (drift_of q)) (plan_of q).entries
+before_all q a = each (λ h k d. (pos 1024 *ℤ d) ≤ℤ (pos h *ℤ (pos 1024 +ℤ k))) (λ h k d n. n.before) (drift_of q) 0 (strips_of (drift_of q)) (plan_of q).entries (demand3 q a)

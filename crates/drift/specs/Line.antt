@@ -5,7 +5,7 @@ use Rattle.std.proofs.Common.{sym, ap, ◌∙◌, arith, mod-eq_of_lt}
 use Rattle.std.specs.Int.{w16}
 use Rattle.std.proofs.lemmas.Int.{to_z_pos}
 use Rattle.signed.specs.Diff.{up, zdiff, zarith}
-use Rattle.signed.specs.Floor.{floorDiv, modulo, floor-mod, floor-unique, modulo-lt}
+use Rattle.signed.specs.Floor.{floor_div, modulo, floor_mod, floor_unique, modulo_lt}
 use Rattle.signed.specs.Cast.{i16}
 use Rattle.measures.specs.Range.{Below, counted}
 use Rattle.drift.specs.Plain.{NearBy}
@@ -36,7 +36,7 @@ small_at t h = ap i16 (sym (counted h.low)) ∙ small (up t) (omega zarith)
 
 -- a remainder does not change by whole images
 pub same_rest : (x y m : ℤ) (n : ℕ) → 0 < n → x ≡ y +ℤ m *ℤ pos n → modulo x n ≡ modulo y n
-same_rest x y m n h e = sym (floor-unique x n (floorDiv y n +ℤ m) (modulo y n) (modulo-lt y h) (by (floorDiv y n) (modulo y n) (floor-mod y n h))).rest
+same_rest x y m n h e = sym (floor_unique x n (floor_div y n +ℤ m) (modulo y n) (modulo_lt y h) (by (floor_div y n) (modulo y n) (floor_mod y n h))).rest
   where
     by : (q : ℤ) (r : ℕ) → y ≡ q *ℤ pos n +ℤ pos r → x ≡ (q +ℤ m) *ℤ pos n +ℤ pos r
     by q r f = e ∙ rw f (simp zdiff (omega zarith))
@@ -44,7 +44,7 @@ same_rest x y m n h e = sym (floor-unique x n (floorDiv y n +ℤ m) (modulo y n)
 -- the same rows added to two numbers of one remainder, and whole images to one of them
 pub shifted : (x y x' y' rows m : ℤ) (n : ℕ) → 0 < n → modulo x n ≡ modulo y n → x' ≡ x +ℤ rows +ℤ m *ℤ pos n → y' ≡ y +ℤ rows → modulo x' n ≡ modulo y' n
 shifted x y x' y' rows m n h e p q =
-    same_rest x' y' (floorDiv x n -ℤ floorDiv y n +ℤ m) n h (p ∙ by (floorDiv x n) (floorDiv y n) (modulo x n) (modulo y n) e (floor-mod x n h) (floor-mod y n h) ∙ ap (λ (u : ℤ). u +ℤ (floorDiv x n -ℤ floorDiv y n +ℤ m) *ℤ pos n) (sym q))
+    same_rest x' y' (floor_div x n -ℤ floor_div y n +ℤ m) n h (p ∙ by (floor_div x n) (floor_div y n) (modulo x n) (modulo y n) e (floor_mod x n h) (floor_mod y n h) ∙ ap (λ (u : ℤ). u +ℤ (floor_div x n -ℤ floor_div y n +ℤ m) *ℤ pos n) (sym q))
   where
     by : (a b : ℤ) (r s : ℕ) → r ≡ s → x ≡ a *ℤ pos n +ℤ pos r → y ≡ b *ℤ pos n +ℤ pos s → x +ℤ rows +ℤ m *ℤ pos n ≡ y +ℤ rows +ℤ (a -ℤ b +ℤ m) *ℤ pos n
     by a b r s f g k = rw (g, k, f) (simp zdiff (omega zarith))

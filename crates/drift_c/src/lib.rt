@@ -2,7 +2,7 @@
 #![tactic(auto)]
 
 ghost use Rattle.std.specs.Prelude.{◌≡◌};
-ghost use Rattle.measuring.specs.Host.{drifted, hostDrift};
+ghost use Rattle.measuring.specs.Host.{drifted, host_drift};
 
 #[unsafe(no_mangle)]
 pub extern "C" fn visor_drift(
@@ -11,7 +11,7 @@ pub extern "C" fn visor_drift(
     drift: &mut [u64],
     told: &mut [u64],
 ) -> u64
-    ensures { drifted result drift.new told.new ≡ hostDrift object.now request.now drift.old told.old }
+    ensures { drifted result drift.new told.new ≡ host_drift object.now request.now drift.old told.old }
 {
     measuring::visor_drift(object, request, drift, told)
 }

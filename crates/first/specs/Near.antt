@@ -14,7 +14,7 @@ use Rattle.plan.specs.Sound.{SoundFirst}
 
 -- what the first strip needs of the start
 pub record Near (i : Start) : Type 0 where
-  pub image-y : Below 20 i.image_y.0
+  pub image_y : Below 20 i.image_y.0
   pub low : neg_ℤ (pos (2 ^ 33)) ≤ℤ i.origin.0
   pub high : i.origin.0 ≤ℤ pos (2 ^ 33)
 

@@ -5,7 +5,7 @@ ghost use Rattle.std.proofs.Common.{SFits};
 ghost use Rattle.measures.specs.Range.{Below};
 ghost use Rattle.plan.specs.Sound.{SoundScaled};
 ghost use Rattle.first.specs.Near.{Near, FirstIs};
-ghost use Rattle.first.specs.First.{imageOffset, frameOffset, sliceStart, hiddenOf, count_of, imageRow, CutIs};
+ghost use Rattle.first.specs.First.{image_offset_of, frame_offset_of, slice_start_of, hidden_of, count_of, image_row_of, CutIs};
 
 use measures::{Scale, ThirtySeconds};
 use plan::{First, Scaled, Start};
@@ -22,7 +22,7 @@ pub(crate) struct Cut {
 fn image_offset(y: ThirtySeconds, origin: ThirtySeconds) -> i64
     requires below { Below 20 y.0 }
     requires pos_bound { (neg_ℤ (pos (2 ^ 33)) ≤ℤ origin.0) × (origin.0 ≤ℤ pos (2 ^ 33)) }
-    ensures value { result ≡ imageOffset y.0 origin.0 }
+    ensures value { result ≡ image_offset_of y.0 origin.0 }
     ensures lower_bound { (neg_ℤ (pos (2 ^ 39)) ≤ℤ result) × (result ≤ℤ pos (2 ^ 39)) }
 {
     measures::of_position(ThirtySeconds(y.0 - origin.0))
@@ -32,7 +32,7 @@ fn image_offset(y: ThirtySeconds, origin: ThirtySeconds) -> i64
 fn frame_offset(offset: i64, scale_h: Scale) -> i64
     requires pos_bound { (neg_ℤ (pos (2 ^ 39)) ≤ℤ offset) × (offset ≤ℤ pos (2 ^ 39)) }
     requires bound { (1 ≤ scale_h.0) × (scale_h.0 ≤ 65535) }
-    ensures value { result ≡ frameOffset offset scale_h.0 }
+    ensures value { result ≡ frame_offset_of offset scale_h.0 }
     ensures lower_bound { (neg_ℤ (pos (2 ^ 49)) ≤ℤ result) × (result ≤ℤ pos (2 ^ 49)) }
 {
     measures::of_lines(signed::floor_div(offset, scale_h.0))
@@ -41,8 +41,8 @@ fn frame_offset(offset: i64, scale_h: Scale) -> i64
 // A strip's rows or frame lines times its number.
 fn slice_start(rows: u64, slice: i64) -> i64
     requires rows_bound { rows ≤ 2 ^ 29 }
-    requires sfits { SFits w64 (sliceStart rows slice) }
-    ensures { result ≡ sliceStart rows slice }
+    requires sfits { SFits w64 (slice_start_of rows slice) }
+    ensures { result ≡ slice_start_of rows slice }
 {
     rows as i64 * slice
 }
@@ -51,7 +51,7 @@ fn slice_start(rows: u64, slice: i64) -> i64
 fn hidden_of(offset: i64, start: i64) -> u64
     requires start_le_offset { (start ≤ℤ offset) × (offset <ℤ (start +ℤ pos (2 ^ 30))) }
     requires pos_bound { (neg_ℤ (pos (2 ^ 49)) ≤ℤ offset) × (offset ≤ℤ pos (2 ^ 49)) }
-    ensures result_value { pos result ≡ hiddenOf offset start }
+    ensures result_value { pos result ≡ hidden_of offset start }
     ensures upper_bound { result ≤ 2 ^ 30 + 1024 }
 {
     (offset - masks::clear10(start)) as u64
@@ -70,7 +70,7 @@ fn image_row(start: i64, origin: ThirtySeconds, hidden: u64, source_rows: u64) -
     requires pos_bound { (neg_ℤ (pos (2 ^ 61)) ≤ℤ start) × (start ≤ℤ pos (2 ^ 61)) }
     requires pos_bound_2 { (neg_ℤ (pos (2 ^ 33)) ≤ℤ origin.0) × (origin.0 ≤ℤ pos (2 ^ 33)) }
     requires hidden_bound { (hidden ≤ 2 ^ 40) × ((1 ≤ source_rows) × (source_rows ≤ 16383)) }
-    ensures { result ≡ imageRow start origin.0 (pos hidden) source_rows }
+    ensures { result ≡ image_row_of start origin.0 (pos hidden) source_rows }
 {
     let top = measures::whole_rows(origin);
     signed::rem_euclid(start + top + measures::whole(hidden) as i64, source_rows)

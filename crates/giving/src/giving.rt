@@ -2,9 +2,9 @@
 ghost use Rattle.std.specs.Prelude.{◌≡◌, ◌+◌, ◌≤◌, length};
 ghost use Rattle.std.proofs.Math.Seq.{paste};
 ghost use Rattle.plan.specs.Sound.{EntryIn};
-ghost use Rattle.plan.specs.Run.{entryWords};
-ghost use Rattle.words.specs.Counts.{Countable, countedOf};
-ghost use Rattle.giving.specs.Places.{noPlaces, tilePlaced, placed_of};
+ghost use Rattle.plan.specs.Run.{entry_words};
+ghost use Rattle.words.specs.Counts.{Countable, counted_of};
+ghost use Rattle.giving.specs.Places.{no_places, tile_placed, placed_of};
 
 use plan::Entry;
 use words::{Counts, counted, image_words, load_words, rect_words, size_words, store, tile_words};
@@ -21,7 +21,7 @@ pub struct Places {
 
 // No entry has set a tile yet.
 pub fn no_places() -> Places
-    ensures { result ≡ noPlaces }
+    ensures { result ≡ no_places }
 {
     Places {
         tile0: 0,
@@ -40,7 +40,7 @@ pub struct Gave {
 
 // A tile's entry stands at a place.
 fn tile_placed(p: Places, index: u64, place: usize) -> Places
-    ensures { result ≡ tilePlaced p index place }
+    ensures { result ≡ tile_placed p index place }
 {
     let mut q = p;
     if index == 7 {
@@ -54,7 +54,7 @@ fn tile_placed(p: Places, index: u64, place: usize) -> Places
 // Gives an entry; what is known after it. A table with all that a kind does in one arm, so longer than other functions: the compiler then jumps by the kind once.
 pub fn give(plan: &mut [u64], at: usize, places: Places, n: Counts, e: Entry) -> Gave
     requires { (at + 11 ≤ length plan.old) × ((Countable n) × EntryIn e) }
-    ensures { (plan.new ≡ paste plan.old at (entryWords e) 11) × (result.counts ≡ countedOf n e) × (result.places ≡ placed_of places at e) }
+    ensures { (plan.new ≡ paste plan.old at (entry_words e) 11) × (result.counts ≡ counted_of n e) × (result.places ≡ placed_of places at e) }
 {
     match e {
         Entry::Image {

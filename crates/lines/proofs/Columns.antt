@@ -9,51 +9,51 @@ use lib.Dec.{ltb, leb}
 use lib.ListN.{length, take, drop, set, replicate, length-append, length-replicate, replicate-append-replicate}
 use lib.Seq.{take-take}
 use borrow.Author.Tests.{ltb-true, ltb-false}
-use Rattle.lines.specs.Text.{space, minus, digitsOf, leading, column, isNegative, magnitudeOf, cell}
-use Rattle.lines.specs.Lines.{withText, PutIs, Blank, DigitsIs}
-use Rattle.lines.proofs.Texts.{with-nil, with-length, with-before, with_lead}
+use Rattle.lines.specs.Text.{space, minus, digits_of, leading, column, is_negative, magnitude_of, cell}
+use Rattle.lines.specs.Lines.{with_text, PutIs, Blank, DigitsIs}
+use Rattle.lines.proofs.Texts.{with_nil, with_length, with_before, with_lead}
 
 -- ---- lengths
 
-either-most : (t : Bool) (xs : List ℕ) (w : ℕ) → length xs ≤ w → length (cond t xs []) ≤ w
-either-most true xs w a = a
-either-most false xs w a = omega arith
+either_most : (t : Bool) (xs : List ℕ) (w : ℕ) → length xs ≤ w → length (cond t xs []) ≤ w
+either_most true xs w a = a
+either_most false xs w a = omega arith
 
-pub digits-most : (w n : ℕ) → length (digitsOf w n) ≤ w
-unfolding digitsOf
-digits-most zero n = omega arith
-digits-most (suc w) n =
-    let l = either-most (leb 10 n) (digitsOf w (n / 10)) w (digits-most w (n / 10)) in
-    omega (arith, length-append (cond (leb 10 n) (digitsOf w (n / 10)) []) ((48 + n % 10) ∷ []))
+pub digits_most : (w n : ℕ) → length (digits_of w n) ≤ w
+unfolding digits_of
+digits_most zero n = omega arith
+digits_most (suc w) n =
+    let l = either_most (leb 10 n) (digits_of w (n / 10)) w (digits_most w (n / 10)) in
+    omega (arith, length-append (cond (leb 10 n) (digits_of w (n / 10)) []) ((48 + n % 10) ∷ []))
 
 leading_length : (mark w : ℕ) → length (leading mark w) ≡ w
 unfolding leading
 leading_length mark zero = refl
 leading_length mark (suc w) = length-append (replicate w space) (mark ∷ []) ∙ omega (arith, length-replicate w space)
 
-pub cell-length : (w x : ℕ) → length (cell w x) ≡ w
+pub cell_length : (w x : ℕ) → length (cell w x) ≡ w
 unfolding cell column
-cell-length w x =
-    let n = magnitudeOf w x in
-    let mark = cond (isNegative w x) minus space in
-    length-append (leading mark (w - length (digitsOf w n))) (digitsOf w n) ∙ omega (arith, leading_length mark (w - length (digitsOf w n)), digits-most w n)
+cell_length w x =
+    let n = magnitude_of w x in
+    let mark = cond (is_negative w x) minus space in
+    length-append (leading mark (w - length (digits_of w n))) (digits_of w n) ∙ omega (arith, leading_length mark (w - length (digits_of w n)), digits_most w n)
 
 -- ---- digits from the right
 
 abbrev owed : Bool → (k n : ℕ) → List ℕ
-owed more k n = cond more (digitsOf k n) []
+owed more k n = cond more (digits_of k n) []
 
 -- what is still owed, in front of what is done, is the number
 pub record Writing (out₀ : List ℕ) (at end n₀ : ℕ) (out : List ℕ) (n : ℕ) (more : Bool) (i : ℕ) : Type 0 where
   pub from : at ≤ i
   pub done : List ℕ
   pub place : i + length done ≡ end
-  pub is : digitsOf (end - at) n₀ ≡ owed more (i - at) n ++ done
-  pub stands : out ≡ withText out₀ i done
+  pub is : digits_of (end - at) n₀ ≡ owed more (i - at) n ++ done
+  pub stands : out ≡ with_text out₀ i done
 
 pub writing_start : (out : List ℕ) (at end n : ℕ) → at ≤ end → Writing out at end n out n true end
 writing_start out at end n l =
-    record { from = l; done = []; place = omega arith; is = sym (append-nil (digitsOf (end - at) n)); stands = sym (with-nil out end) }
+    record { from = l; done = []; place = omega arith; is = sym (append-nil (digits_of (end - at) n)); stands = sym (with_nil out end) }
 
 both : (a b : Bool) → (a && b) ≡ true → (a ≡ true) × (b ≡ true)
 both true b e = (refl, e)
@@ -65,13 +65,13 @@ module _ (out₀ : List ℕ) (at end n₀ : ℕ) (out : List ℕ) (n : ℕ) (mor
 
   -- one place more to the left
   pub writing_more : (g : ℕ) → (more && ltb at i) ≡ true → end ≤ length out₀ → g ≡ 48 + n % 10 → Writing out₀ at end n₀ (set out (i - 1) g) (n / 10) (leb 10 n) (i - 1)
-  unfolding digitsOf
+  unfolding digits_of
   writing_more g t room e =
       let l = still t in
       let p = h.place in
       let k : i - at ≡ suc (i - 1 - at) = omega arith in
       let j : i ≡ i - 1 + 1 = omega arith in
-      let rest = cond (leb 10 n) (digitsOf (i - 1 - at) (n / 10)) [] in
+      let rest = cond (leb 10 n) (digits_of (i - 1 - at) (n / 10)) [] in
       record {
         from = omega arith;
         done = g ∷ h.done;
@@ -81,19 +81,19 @@ module _ (out₀ : List ℕ) (at end n₀ : ℕ) (out : List ℕ) (n : ℕ) (mor
             ∙ (λ d. owed ((both more (ltb at i) t).0 d) (k d) n ++ h.done)
             ∙ append_assoc rest ((48 + n % 10) ∷ []) h.done
             ∙ ap (λ (x : ℕ). rest ++ x ∷ h.done) (sym e);
-        stands = ap (λ (x : List ℕ). set x (i - 1) g) (h.stands ∙ ap (λ (x : ℕ). withText out₀ x h.done) j) ∙ with-before out₀ (i - 1) h.done g (omega arith);
+        stands = ap (λ (x : List ℕ). set x (i - 1) g) (h.stands ∙ ap (λ (x : ℕ). with_text out₀ x h.done) j) ∙ with_before out₀ (i - 1) h.done g (omega arith);
       }
 
   -- the number stands
-  none-owed : (t : Bool) → (t && ltb at i) ≡ false → owed t (i - at) n ≡ []
-  unfolding digitsOf
-  none-owed true e = let k : i - at ≡ 0 = omega (arith, ltb-false at i e) in ap (λ (w : ℕ). digitsOf w n) k
-  none-owed false e = refl
+  none_owed : (t : Bool) → (t && ltb at i) ≡ false → owed t (i - at) n ≡ []
+  unfolding digits_of
+  none_owed true e = let k : i - at ≡ 0 = omega (arith, ltb-false at i e) in ap (λ (w : ℕ). digits_of w n) k
+  none_owed false e = refl
 
-  pub writing-done : (more && ltb at i) ≡ false → DigitsIs out₀ at end n₀ out i
-  writing-done t =
-      let d : digitsOf (end - at) n₀ ≡ h.done = h.is ∙ ap (λ (x : List ℕ). x ++ h.done) (none-owed more t) in
-      record { first = omega (arith, h.place, ap length d); from = h.from; is = h.stands ∙ ap (withText out₀ i) (sym d) }
+  pub writing_done : (more && ltb at i) ≡ false → DigitsIs out₀ at end n₀ out i
+  writing_done t =
+      let d : digits_of (end - at) n₀ ≡ h.done = h.is ∙ ap (λ (x : List ℕ). x ++ h.done) (none_owed more t) in
+      record { first = omega (arith, h.place, ap length d); from = h.from; is = h.stands ∙ ap (with_text out₀ i) (sym d) }
 
 -- ---- the mark before them
 
@@ -102,25 +102,25 @@ unfolding leading
 leads zero = refl
 leads (suc w) = let e : w + 1 ≡ suc w = omega arith in replicate-append-replicate w 1 space ∙ ap (λ (n : ℕ). replicate n space) e
 
-module _ (out : List ℕ) (at w x : ℕ) (b : Blank out at w) (end : ℕ) (e : end ≡ at + w) (out' : List ℕ) (r : ℕ) (d : DigitsIs out at end (magnitudeOf w x) out' r) where
+module _ (out : List ℕ) (at w x : ℕ) (b : Blank out at w) (end : ℕ) (e : end ≡ at + w) (out' : List ℕ) (r : ℕ) (d : DigitsIs out at end (magnitude_of w x) out' r) where
   wide : end - at ≡ w
   wide = omega arith
 
   number : List ℕ
-  number = digitsOf w (magnitudeOf w x)
+  number = digits_of w (magnitude_of w x)
 
-  number_is : out' ≡ withText out r number
+  number_is : out' ≡ with_text out r number
   unfolding number
-  number_is = d.is ∙ ap (λ (n : ℕ). withText out r (digitsOf n (magnitudeOf w x))) wide
+  number_is = d.is ∙ ap (λ (n : ℕ). with_text out r (digits_of n (magnitude_of w x))) wide
 
   place : r + length number ≡ at + w
   unfolding number
-  place = ap (λ (n : ℕ). r + length (digitsOf n (magnitudeOf w x))) (sym wide) ∙ d.first ∙ e
+  place = ap (λ (n : ℕ). r + length (digits_of n (magnitude_of w x))) (sym wide) ∙ d.first ∙ e
 
   before : w - length number ≡ r - at
   before = omega (arith, place, d.from)
 
-  blanks : (k : ℕ) → k ≤ w → (t : List ℕ) → withText out (at + k) t ≡ withText out at (replicate k space ++ t)
+  blanks : (k : ℕ) → k ≤ w → (t : List ℕ) → with_text out (at + k) t ≡ with_text out at (replicate k space ++ t)
   blanks k l t = with_lead out at k t (replicate k space) (sym (take-take k w (drop at out) l) ∙ ap (take k) b.blank ∙ first k w l) (length-replicate k space)
     where
       first : (k w : ℕ) → k ≤ w → take k (replicate w space) ≡ replicate k space
@@ -129,14 +129,14 @@ module _ (out : List ℕ) (at w x : ℕ) (b : Blank out at w) (end : ℕ) (e : e
       first (suc k) (suc w) l = ap (λ (xs : List ℕ). space ∷ xs) (first k w (omega arith))
 
   mark : ℕ
-  mark = cond (isNegative w x) minus space
+  mark = cond (is_negative w x) minus space
 
-  cell-is : cell w x ≡ leading mark (r - at) ++ number
+  cell_is : cell w x ≡ leading mark (r - at) ++ number
   unfolding cell column number mark
-  cell-is = ap (λ (n : ℕ). leading mark n ++ number) before
+  cell_is = ap (λ (n : ℕ). leading mark n ++ number) before
 
-  put_is : (out'' : List ℕ) → out'' ≡ withText out at (leading mark (r - at) ++ number) → PutIs out at (cell w x) out'' end
-  put_is out'' i = record { next = e ∙ ap (λ (n : ℕ). at + n) (sym (cell-length w x)); is = i ∙ ap (withText out at) (sym cell-is) }
+  put_is : (out'' : List ℕ) → out'' ≡ with_text out at (leading mark (r - at) ++ number) → PutIs out at (cell w x) out'' end
+  put_is out'' i = record { next = e ∙ ap (λ (n : ℕ). at + n) (sym (cell_length w x)); is = i ∙ ap (with_text out at) (sym cell_is) }
 
   -- no mark, or no place for it
   plain : (t : Bool) → (t && ltb at r) ≡ false → leading (cond t minus space) (r - at) ≡ replicate (r - at) space
@@ -144,30 +144,30 @@ module _ (out : List ℕ) (at w x : ℕ) (b : Blank out at w) (end : ℕ) (e : e
   plain true i = let k : r - at ≡ 0 = omega (arith, ltb-false at r i) in ap (leading minus) k ∙ ap (λ (n : ℕ). replicate n space) (sym k)
   plain false i = leads (r - at)
 
-  pub put-plain : (isNegative w x && ltb at r) ≡ false → PutIs out at (cell w x) out' end
+  pub put_plain : (is_negative w x && ltb at r) ≡ false → PutIs out at (cell w x) out' end
   unfolding mark
-  put-plain i =
+  put_plain i =
       let k : r ≡ at + (r - at) = omega (arith, d.from) in
       put_is out' (
-      number_is ∙ ap (λ (n : ℕ). withText out n number) k ∙ blanks (r - at) (omega (arith, place)) number ∙ ap (λ (xs : List ℕ). withText out at (xs ++ number)) (sym (plain (isNegative w x) i)))
+      number_is ∙ ap (λ (n : ℕ). with_text out n number) k ∙ blanks (r - at) (omega (arith, place)) number ∙ ap (λ (xs : List ℕ). with_text out at (xs ++ number)) (sym (plain (is_negative w x) i)))
 
-  pub marked_from : (isNegative w x && ltb at r) ≡ true → at < r
-  marked_from i = ltb-true at r (both (isNegative w x) (ltb at r) i).1
+  pub marked_from : (is_negative w x && ltb at r) ≡ true → at < r
+  marked_from i = ltb-true at r (both (is_negative w x) (ltb at r) i).1
 
   -- the minus sign before the digits
-  pub put-marked : (isNegative w x && ltb at r) ≡ true → PutIs out at (cell w x) (set out' (r - 1) minus) end
+  pub put_marked : (is_negative w x && ltb at r) ≡ true → PutIs out at (cell w x) (set out' (r - 1) minus) end
   unfolding mark leading
-  put-marked i =
+  put_marked i =
       let l = marked_from i in
       let k = r - 1 - at in
       let n : r - at ≡ suc k = omega arith in
       let m : r ≡ at + k + 1 = omega arith in
       let j : r - 1 ≡ at + k = omega arith in
       let room = b.room in
-      let s : set out' (r - 1) minus ≡ withText out (at + k) (minus ∷ number) =
-      ap (λ (xs : List ℕ). set xs (r - 1) minus) (number_is ∙ ap (λ (y : ℕ). withText out y number) m) ∙ ap (λ (y : ℕ). set (withText out (at + k + 1) number) y minus) j ∙ with-before out (at + k) number minus (omega (arith, place)) in
+      let s : set out' (r - 1) minus ≡ with_text out (at + k) (minus ∷ number) =
+      ap (λ (xs : List ℕ). set xs (r - 1) minus) (number_is ∙ ap (λ (y : ℕ). with_text out y number) m) ∙ ap (λ (y : ℕ). set (with_text out (at + k + 1) number) y minus) j ∙ with_before out (at + k) number minus (omega (arith, place)) in
       put_is (set out' (r - 1) minus) (
       s
       ∙ blanks k (omega (arith, place)) (minus ∷ number)
-      ∙ ap (withText out at) (sym (append_assoc (replicate k space) (minus ∷ []) number))
-      ∙ (λ y. withText out at (leading (cond (sym (both (isNegative w x) (ltb at r) i).0 y) minus space) (sym n y) ++ number)))
+      ∙ ap (with_text out at) (sym (append_assoc (replicate k space) (minus ∷ []) number))
+      ∙ (λ y. with_text out at (leading (cond (sym (both (is_negative w x) (ltb at r) i).0 y) minus space) (sym n y) ++ number)))

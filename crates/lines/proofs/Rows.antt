@@ -9,20 +9,20 @@ use lib.ListN.{length, take, drop, set, get_or, replicate, length-append, length
 use lib.Seq.{drop-cons}
 use Rattle.plan.specs.declared.types.Entry.{Entry}
 use Rattle.plan.specs.declared.types.Entry.TheVariants as entry
-use Rattle.plan.specs.Run.{entryWords}
+use Rattle.plan.specs.Run.{entry_words}
 use Rattle.words.specs.Eleven.{eleven}
-use Rattle.lines.specs.Text.{space, newline, cell, row, line, widthsOf, entryText}
-use Rattle.lines.specs.Lines.{withText, Blank, PutIs, total_of}
-use Rattle.lines.proofs.Texts.{with-length, with-again, with-over, with-next, middle}
-use Rattle.lines.proofs.Columns.{cell-length}
+use Rattle.lines.specs.Text.{space, newline, cell, row, line, widths_of, entry_text}
+use Rattle.lines.specs.Lines.{with_text, Blank, PutIs, total_of}
+use Rattle.lines.proofs.Texts.{with_length, with_again, with_over, with_next, middle}
+use Rattle.lines.proofs.Columns.{cell_length}
 
-pub next-width : (ws : List ℕ) (k : ℕ) → k < length ws → total_of (drop k ws) ≡ get_or ws k 0 + total_of (drop (k + 1) ws)
+pub next_width : (ws : List ℕ) (k : ℕ) → k < length ws → total_of (drop k ws) ≡ get_or ws k 0 + total_of (drop (k + 1) ws)
 unfolding total_of
-next-width ws k l = rw (add-one k, drop-cons ws k 0 l)
+next_width ws k l = rw (add-one k, drop-cons ws k 0 l)
 
-next-cell : (ws xs : List ℕ) (k : ℕ) → k < length ws → k < length xs → row (drop k ws) (drop k xs) ≡ cell (get_or ws k 0) (get_or xs k 0) ++ row (drop (k + 1) ws) (drop (k + 1) xs)
+next_cell : (ws xs : List ℕ) (k : ℕ) → k < length ws → k < length xs → row (drop k ws) (drop k xs) ≡ cell (get_or ws k 0) (get_or xs k 0) ++ row (drop (k + 1) ws) (drop (k + 1) xs)
 unfolding row
-next-cell ws xs k l m = rw (add-one k, drop-cons ws k 0 l, drop-cons xs k 0 m)
+next_cell ws xs k l m = rw (add-one k, drop-cons ws k 0 l, drop-cons xs k 0 m)
 
 -- a row whose first k cells are written, over blanks
 pub record Filled (ws xs out₀ : List ℕ) (start : ℕ) (out : List ℕ) (at k : ℕ) : Type 0 where
@@ -31,21 +31,21 @@ pub record Filled (ws xs out₀ : List ℕ) (start : ℕ) (out : List ℕ) (at k
   pub place : at ≡ start + length done
   pub room : length done + total_of (drop k ws) ≡ total_of ws
   pub is : done ++ row (drop k ws) (drop k xs) ≡ row ws xs
-  pub stands : out ≡ withText out₀ start (done ++ replicate (total_of (drop k ws)) space)
+  pub stands : out ≡ with_text out₀ start (done ++ replicate (total_of (drop k ws)) space)
 
-pub blanks-are : (ws out : List ℕ) (start n : ℕ) (out₀ : List ℕ) → n ≡ total_of ws → out₀ ≡ withText out start (replicate (start + n - start) space) → out₀ ≡ withText out start (replicate (total_of ws) space)
-blanks-are ws out start n out₀ i e = let m : start + n - start ≡ total_of ws = omega arith in e ∙ ap (λ (k : ℕ). withText out start (replicate k space)) m
+pub blanks_are : (ws out : List ℕ) (start n : ℕ) (out₀ : List ℕ) → n ≡ total_of ws → out₀ ≡ with_text out start (replicate (start + n - start) space) → out₀ ≡ with_text out start (replicate (total_of ws) space)
+blanks_are ws out start n out₀ i e = let m : start + n - start ≡ total_of ws = omega arith in e ∙ ap (λ (k : ℕ). with_text out start (replicate k space)) m
 
 -- blanks are put first
-module _ (ws xs out : List ℕ) (start : ℕ) (fits : start + total_of ws + 1 ≤ length out) (out₀ : List ℕ) (e : out₀ ≡ withText out start (replicate (total_of ws) space)) where
+module _ (ws xs out : List ℕ) (start : ℕ) (fits : start + total_of ws + 1 ≤ length out) (out₀ : List ℕ) (e : out₀ ≡ with_text out start (replicate (total_of ws) space)) where
   room : start + length (replicate (total_of ws) space) ≤ length out
   room = omega (arith, fits, length-replicate (total_of ws) space)
 
-  pub blank-same : length out₀ ≡ length out
-  blank-same = ap length e ∙ with-length out start (replicate (total_of ws) space) room
+  pub blank_same : length out₀ ≡ length out
+  blank_same = ap length e ∙ with_length out start (replicate (total_of ws) space) room
 
-  pub filled-start : Filled ws xs out₀ start out₀ start 0
-  filled-start =
+  pub filled_start : Filled ws xs out₀ start out₀ start 0
+  filled_start =
       let bs = replicate (total_of ws) space in
       record {
         few = omega arith;
@@ -53,22 +53,22 @@ module _ (ws xs out : List ℕ) (start : ℕ) (fits : start + total_of ws + 1 �
         place = omega arith;
         room = omega arith;
         is = refl;
-        stands = e ∙ sym (with-again out start bs room bs (omega arith)) ∙ ap (λ (o : List ℕ). withText o start bs) (sym e);
+        stands = e ∙ sym (with_again out start bs room bs (omega arith)) ∙ ap (λ (o : List ℕ). with_text o start bs) (sym e);
       }
 
   -- what stands over the blanks stands there without them
-  pub over-blanks : (t out' : List ℕ) (r : ℕ) → total_of ws ≤ length t → PutIs out₀ start t out' r → PutIs out start t out' r
-  over-blanks t out' r l p =
+  pub over_blanks : (t out' : List ℕ) (r : ℕ) → total_of ws ≤ length t → PutIs out₀ start t out' r → PutIs out start t out' r
+  over_blanks t out' r l p =
       record {
         next = p.next;
-        is = p.is ∙ ap (λ (o : List ℕ). withText o start t) e ∙ with-again out start (replicate (total_of ws) space) room t (omega (arith, length-replicate (total_of ws) space));
+        is = p.is ∙ ap (λ (o : List ℕ). with_text o start t) e ∙ with_again out start (replicate (total_of ws) space) room t (omega (arith, length-replicate (total_of ws) space));
       }
 
 module _ (ws xs : List ℕ) (lw : length ws ≡ 11) (lx : length xs ≡ 11) (out₀ : List ℕ) (start : ℕ) (fits : start + total_of ws + 1 ≤ length out₀) (out : List ℕ) (at k : ℕ) (h : Filled ws xs out₀ start out at k) where
-  pub filled-same : length out ≡ length out₀
-  filled-same =
+  pub filled_same : length out ≡ length out₀
+  filled_same =
       let bs = replicate (total_of (drop k ws)) space in
-      ap length h.stands ∙ with-length out₀ start (h.done ++ bs) (omega (arith, fits, h.room, length-append h.done bs, length-replicate (total_of (drop k ws)) space))
+      ap length h.stands ∙ with_length out₀ start (h.done ++ bs) (omega (arith, fits, h.room, length-append h.done bs, length-replicate (total_of (drop k ws)) space))
 
   -- the blanks that are left, the next column's first
   module _ (l : k < 11) where
@@ -78,26 +78,26 @@ module _ (ws xs : List ℕ) (lw : length ws ≡ 11) (lx : length xs ≡ 11) (out
     rest : ℕ
     rest = total_of (drop (k + 1) ws)
 
-    split : out ≡ withText out₀ start (h.done ++ (replicate w space ++ replicate rest space))
+    split : out ≡ with_text out₀ start (h.done ++ (replicate w space ++ replicate rest space))
     unfolding w rest
     split =
         h.stands
-        ∙ ap (λ (n : ℕ). withText out₀ start (h.done ++ replicate n space)) (next-width ws k (omega arith))
-        ∙ ap (λ (bs : List ℕ). withText out₀ start (h.done ++ bs)) (sym (replicate-append-replicate w rest space))
+        ∙ ap (λ (n : ℕ). with_text out₀ start (h.done ++ replicate n space)) (next_width ws k (omega arith))
+        ∙ ap (λ (bs : List ℕ). with_text out₀ start (h.done ++ bs)) (sym (replicate-append-replicate w rest space))
 
-    total-is : length h.done + (w + rest) ≡ total_of ws
+    total_is : length h.done + (w + rest) ≡ total_of ws
     unfolding w rest
-    total-is = omega (arith, h.room, next-width ws k (omega arith))
+    total_is = omega (arith, h.room, next_width ws k (omega arith))
 
     inside : start + length (h.done ++ (replicate w space ++ replicate rest space)) ≤ length out₀
-    inside = omega (arith, fits, total-is, length-append h.done (replicate w space ++ replicate rest space), length-append (replicate w space) (replicate rest space), length-replicate w space, length-replicate rest space)
+    inside = omega (arith, fits, total_is, length-append h.done (replicate w space ++ replicate rest space), length-append (replicate w space) (replicate rest space), length-replicate w space, length-replicate rest space)
 
-    pub filled-blank : Blank out at (get_or ws k 0)
+    pub filled_blank : Blank out at (get_or ws k 0)
     unfolding w
-    filled-blank =
+    filled_blank =
         let wide = length-replicate w space in
         record {
-          room = omega (arith, fits, total-is, filled-same, h.place);
+          room = omega (arith, fits, total_is, filled_same, h.place);
           blank = (λ i. take (sym wide i) (drop (h.place i) (split i))) ∙ middle out₀ start h.done (replicate w space) (replicate rest space) inside;
         }
 
@@ -105,21 +105,21 @@ module _ (ws xs : List ℕ) (lw : length ws ≡ 11) (lx : length xs ≡ 11) (out
     unfolding w rest
     filled_more out' at' p =
         let c = cell w (get_or xs k 0) in
-        let n = cell-length w (get_or xs k 0) in
+        let n = cell_length w (get_or xs k 0) in
         record {
           few = omega arith;
           done = h.done ++ c;
           place = omega (arith, p.next, h.place, length-append h.done c);
-          room = omega (arith, length-append h.done c, n, total-is);
+          room = omega (arith, length-append h.done c, n, total_is);
           is =
               append_assoc h.done c (row (drop (k + 1) ws) (drop (k + 1) xs))
-              ∙ ap (λ (t : List ℕ). h.done ++ t) (sym (next-cell ws xs k (omega arith) (omega arith)))
+              ∙ ap (λ (t : List ℕ). h.done ++ t) (sym (next_cell ws xs k (omega arith) (omega arith)))
               ∙ h.is;
           stands =
               p.is
-              ∙ (λ i. withText (split i) (h.place i) c)
-              ∙ with-over out₀ start h.done (replicate w space) (replicate rest space) inside c (n ∙ sym (length-replicate w space))
-              ∙ ap (withText out₀ start) (sym (append_assoc h.done c (replicate rest space)));
+              ∙ (λ i. with_text (split i) (h.place i) c)
+              ∙ with_over out₀ start h.done (replicate w space) (replicate rest space) inside c (n ∙ sym (length-replicate w space))
+              ∙ ap (with_text out₀ start) (sym (append_assoc h.done c (replicate rest space)));
         }
 
   -- the row stands, and its end is put after it
@@ -131,49 +131,49 @@ module _ (ws xs : List ℕ) (lw : length ws ≡ 11) (lx : length xs ≡ 11) (out
     unfolding row
     row_is = sym (append-nil h.done) ∙ ap (λ (d : List ℕ). h.done ++ row d (drop k xs)) (sym none) ∙ h.is
 
-    row-stands : out ≡ withText out₀ start (row ws xs)
+    row_stands : out ≡ with_text out₀ start (row ws xs)
     unfolding total_of
-    row-stands = h.stands ∙ ap (λ (d : List ℕ). withText out₀ start (h.done ++ replicate (total_of d) space)) none ∙ ap (withText out₀ start) (append-nil h.done ∙ row_is)
+    row_stands = h.stands ∙ ap (λ (d : List ℕ). with_text out₀ start (h.done ++ replicate (total_of d) space)) none ∙ ap (with_text out₀ start) (append-nil h.done ∙ row_is)
 
-    pub filled-end : at ≡ start + total_of ws
+    pub filled_end : at ≡ start + total_of ws
     unfolding total_of
-    filled-end = omega (arith, h.place, h.room, ap total_of none)
+    filled_end = omega (arith, h.place, h.room, ap total_of none)
 
-    pub line-long : total_of ws ≤ length (line ws xs)
-    line-long = omega (arith, filled-end, h.place, ap length row_is, length-append (row ws xs) (newline ∷ []))
+    pub line_long : total_of ws ≤ length (line ws xs)
+    line_long = omega (arith, filled_end, h.place, ap length row_is, length-append (row ws xs) (newline ∷ []))
 
-    pub filled-line : PutIs out₀ start (line ws xs) (set out at newline) (at + 1)
-    filled-line =
+    pub filled_line : PutIs out₀ start (line ws xs) (set out at newline) (at + 1)
+    filled_line =
         let long = ap length row_is in
         record {
           next = omega (arith, h.place, long, length-append (row ws xs) (newline ∷ []));
-          is = ap (λ (o : List ℕ). set o at newline) row-stands ∙ with-next out₀ start (row ws xs) at newline (omega (arith, h.place, long)) (omega (arith, fits, filled-end));
+          is = ap (λ (o : List ℕ). set o at newline) row_stands ∙ with_next out₀ start (row ws xs) at newline (omega (arith, h.place, long)) (omega (arith, fits, filled_end));
         }
 
 -- every entry's columns fit a line
-pub widths-fit : (e : Entry) → total_of (widthsOf e) ≤ 127
-unfolding widthsOf total_of
-widths-fit (entry.Image fmt siz width address) = omega arith
-widths-fit (entry.Tile i fmt siz line tmem palette cms cmt masks maskt) = omega arith
-widths-fit (entry.Size i uls ult lrs lrt) = omega arith
-widths-fit (entry.Load i uls ult lrs lrt words rows stride start len) = omega arith
-widths-fit (entry.Rect i ulx uly lrx lry uls ult dsdx dtdy row) = omega arith
+pub widths_fit : (e : Entry) → total_of (widths_of e) ≤ 127
+unfolding widths_of total_of
+widths_fit (entry.Image fmt siz width address) = omega arith
+widths_fit (entry.Tile i fmt siz line tmem palette cms cmt masks maskt) = omega arith
+widths_fit (entry.Size i uls ult lrs lrt) = omega arith
+widths_fit (entry.Load i uls ult lrs lrt words rows stride start len) = omega arith
+widths_fit (entry.Rect i ulx uly lrx lry uls ult dsdx dtdy row) = omega arith
 
-row-length : (ws xs : List ℕ) → length ws ≡ length xs → length (row ws xs) ≡ total_of ws
+row_length : (ws xs : List ℕ) → length ws ≡ length xs → length (row ws xs) ≡ total_of ws
 unfolding row total_of
-row-length [] xs e = refl
-row-length (w ∷ ws) [] e = absurd (omega arith)
-row-length (w ∷ ws) (x ∷ xs) e = length-append (cell w x) (row ws xs) ∙ omega (arith, cell-length w x, row-length ws xs (omega arith))
+row_length [] xs e = refl
+row_length (w ∷ ws) [] e = absurd (omega arith)
+row_length (w ∷ ws) (x ∷ xs) e = length-append (cell w x) (row ws xs) ∙ omega (arith, cell_length w x, row_length ws xs (omega arith))
 
-eleven-widths : (e : Entry) → length (widthsOf e) ≡ 11
-unfolding widthsOf
-eleven-widths (entry.Image fmt siz width address) = refl
-eleven-widths (entry.Tile i fmt siz line tmem palette cms cmt masks maskt) = refl
-eleven-widths (entry.Size i uls ult lrs lrt) = refl
-eleven-widths (entry.Load i uls ult lrs lrt words rows stride start len) = refl
-eleven-widths (entry.Rect i ulx uly lrx lry uls ult dsdx dtdy row) = refl
+eleven_widths : (e : Entry) → length (widths_of e) ≡ 11
+unfolding widths_of
+eleven_widths (entry.Image fmt siz width address) = refl
+eleven_widths (entry.Tile i fmt siz line tmem palette cms cmt masks maskt) = refl
+eleven_widths (entry.Size i uls ult lrs lrt) = refl
+eleven_widths (entry.Load i uls ult lrs lrt words rows stride start len) = refl
+eleven_widths (entry.Rect i ulx uly lrx lry uls ult dsdx dtdy row) = refl
 
-pub entry-most : (e : Entry) → length (entryText e) ≤ 128
-unfolding entryText
-entry-most e =
-    omega (arith, length-append (row (widthsOf e) (entryWords e)) (newline ∷ []), row-length (widthsOf e) (entryWords e) (eleven-widths e ∙ sym (eleven e)), widths-fit e)
+pub entry_most : (e : Entry) → length (entry_text e) ≤ 128
+unfolding entry_text
+entry_most e =
+    omega (arith, length-append (row (widths_of e) (entry_words e)) (newline ∷ []), row_length (widths_of e) (entry_words e) (eleven_widths e ∙ sym (eleven e)), widths_fit e)

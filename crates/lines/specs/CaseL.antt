@@ -1,19 +1,19 @@
 -- Case L: the text of its plan is the block that D 12.5 prints, byte by byte. D is docs/SPECIFICATION.md.
 -- Assumes nothing.
 use Rattle.std.specs.Prelude.{◌≡◌, refl, List, [], ◌∷◌, ℕ}
-use Rattle.plan.specs.Check.{given, ends, requestOfRecord}
+use Rattle.plan.specs.Check.{given, ends, request_of_record}
 use Rattle.plan.specs.Request.{Request}
-use Rattle.plan.specs.Run.{entryWords, rectangles, wordsFrom, end_of}
+use Rattle.plan.specs.Run.{entry_words, rectangles, words_from, end_of}
 use Rattle.plan.specs.Whole.{plan_of}
-use Rattle.lines.specs.Text.{digitsOf, leading, column, cell, row, widthsOf, entryText, endText, entriesText, planText}
+use Rattle.lines.specs.Text.{digits_of, leading, column, cell, row, widths_of, entry_text, end_text, entries_text, plan_text}
 
 -- D "Case L: copy, image and frame 64 by 8 units at 0, .."
-unfoldable pub caseL : Request
-unfolding requestOfRecord
-caseL = requestOfRecord (given 0x0000004000000040000000080000000800000000fff400020000000000000008000800000001000000000000014000f0000000000a0000000000001000 40 0 (ends 0 0 0 0) [] [])
+unfoldable pub case_l : Request
+unfolding request_of_record
+case_l = request_of_record (given 0x0000004000000040000000080000000800000000fff400020000000000000008000800000001000000000000014000f0000000000a0000000000001000 40 0 (ends 0 0 0 0) [] [])
 
-abbrev pub blockL : List ℕ
-blockL =
+abbrev pub block_l : List ℕ
+block_l =
     32 ∷ 49 ∷ 32 ∷ 32 ∷ 32 ∷ 32 ∷ 32 ∷ 32 ∷ 32 ∷ 48 ∷ 32 ∷ 32 ∷ 32 ∷ 32 ∷ 32 ∷ 32 ∷ 32 ∷ 50 ∷ 32 ∷ 32 ∷ 32 ∷ 32 ∷ 32 ∷ 32 ∷ 49 ∷ 53 ∷ 32 ∷ 32 ∷ 32 ∷ 32 ∷ 32 ∷ 32 ∷ 32 ∷ 32 ∷ 32 ∷ 32 ∷ 32 ∷ 32 ∷ 32 ∷ 32 ∷ 32 ∷ 32 ∷ 32 ∷ 52 ∷ 48 ∷ 57 ∷ 54 ∷ 10
     ∷ 32 ∷ 50 ∷ 32 ∷ 32 ∷ 32 ∷ 32 ∷ 32 ∷ 32 ∷ 32 ∷ 55 ∷ 32 ∷ 32 ∷ 32 ∷ 32 ∷ 32 ∷ 32 ∷ 32 ∷ 48 ∷ 32 ∷ 32 ∷ 32 ∷ 32 ∷ 32 ∷ 32 ∷ 32 ∷ 50 ∷ 32 ∷ 32 ∷ 32 ∷ 32 ∷ 32 ∷ 32 ∷ 32 ∷ 52 ∷ 32 ∷ 32 ∷ 32 ∷ 32 ∷ 32 ∷ 32 ∷ 32 ∷ 48 ∷ 32 ∷ 32 ∷ 32 ∷ 32 ∷ 32 ∷ 32 ∷ 32 ∷ 48 ∷ 32 ∷ 32 ∷ 32 ∷ 32 ∷ 32 ∷ 32 ∷ 32 ∷ 48 ∷ 32 ∷ 32 ∷ 32 ∷ 32 ∷ 32 ∷ 32 ∷ 32 ∷ 48 ∷ 32 ∷ 32 ∷ 32 ∷ 32 ∷ 32 ∷ 32 ∷ 32 ∷ 48 ∷ 32 ∷ 32 ∷ 32 ∷ 32 ∷ 32 ∷ 32 ∷ 32 ∷ 48 ∷ 10
     ∷ 32 ∷ 50 ∷ 32 ∷ 32 ∷ 32 ∷ 32 ∷ 32 ∷ 32 ∷ 32 ∷ 48 ∷ 32 ∷ 32 ∷ 32 ∷ 32 ∷ 32 ∷ 32 ∷ 32 ∷ 48 ∷ 32 ∷ 32 ∷ 32 ∷ 32 ∷ 32 ∷ 32 ∷ 32 ∷ 50 ∷ 32 ∷ 32 ∷ 32 ∷ 32 ∷ 32 ∷ 32 ∷ 32 ∷ 52 ∷ 32 ∷ 32 ∷ 32 ∷ 32 ∷ 32 ∷ 32 ∷ 32 ∷ 48 ∷ 32 ∷ 32 ∷ 32 ∷ 32 ∷ 32 ∷ 32 ∷ 32 ∷ 48 ∷ 32 ∷ 32 ∷ 32 ∷ 32 ∷ 32 ∷ 32 ∷ 32 ∷ 48 ∷ 32 ∷ 32 ∷ 32 ∷ 32 ∷ 32 ∷ 32 ∷ 32 ∷ 48 ∷ 32 ∷ 32 ∷ 32 ∷ 32 ∷ 32 ∷ 32 ∷ 32 ∷ 48 ∷ 32 ∷ 32 ∷ 32 ∷ 32 ∷ 32 ∷ 32 ∷ 32 ∷ 48 ∷ 10
@@ -23,6 +23,6 @@ blockL =
     ∷ 32 ∷ 57 ∷ 32 ∷ 32 ∷ 32 ∷ 32 ∷ 32 ∷ 32 ∷ 32 ∷ 48 ∷ 32 ∷ 32 ∷ 32 ∷ 32 ∷ 32 ∷ 32 ∷ 32 ∷ 54 ∷ 32 ∷ 32 ∷ 32 ∷ 32 ∷ 32 ∷ 32 ∷ 32 ∷ 49 ∷ 32 ∷ 32 ∷ 32 ∷ 32 ∷ 32 ∷ 32 ∷ 32 ∷ 56 ∷ 10
     ∷ []
 
-pub case-L : planText (plan_of caseL) ≡ blockL
-unfolding planText entriesText entryText endText widthsOf row cell column leading digitsOf caseL end_of rectangles wordsFrom entryWords
-case-L = refl
+pub case_l_lem : plan_text (plan_of case_l) ≡ block_l
+unfolding plan_text entries_text entry_text end_text widths_of row cell column leading digits_of case_l end_of rectangles words_from entry_words
+case_l_lem = refl

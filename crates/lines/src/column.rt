@@ -1,7 +1,7 @@
 // One column, over blanks: a number's digits from the right, and its sign.
 ghost use Rattle.std.specs.Prelude.{◌≡◌, ◌+◌, ◌-◌, ◌%◌, ◌≤◌, length, replicate};
-ghost use Rattle.lines.specs.Text.{space, isNegative, magnitudeOf, cell};
-ghost use Rattle.lines.specs.Lines.{withText, Blank, DigitsIs, PutIs};
+ghost use Rattle.lines.specs.Text.{space, is_negative, magnitude_of, cell};
+ghost use Rattle.lines.specs.Lines.{with_text, Blank, DigitsIs, PutIs};
 
 // Columns of this width hold addresses and lengths, which are never negative.
 const WIDE: u8 = 21;
@@ -9,7 +9,7 @@ const WIDE: u8 = 21;
 // Blanks from one place to another: a line gets its blanks at once, so that a column writes nothing but its number.
 pub(crate) fn blank(out: &mut [u8], at: usize, end: usize)
     requires { (at ≤ end) × (end ≤ length out.old) }
-    ensures { out.new ≡ withText out.old at (replicate (end - at) space) }
+    ensures { out.new ≡ with_text out.old at (replicate (end - at) space) }
 {
     let mut i = at;
     while i < end {
@@ -20,13 +20,13 @@ pub(crate) fn blank(out: &mut [u8], at: usize, end: usize)
 
 // In the other columns a word from 2^63 on stands for a negative number.
 fn is_negative(width: u8, x: u64) -> bool
-    ensures { result ≡ isNegative width x }
+    ensures { result ≡ is_negative width x }
 {
     (width < WIDE) & (0x8000_0000_0000_0000 <= x)
 }
 
 fn magnitude(width: u8, x: u64) -> u64
-    ensures { result ≡ magnitudeOf width x }
+    ensures { result ≡ magnitude_of width x }
 {
     if is_negative(width, x) {
         0xffff_ffff_ffff_ffff - x + 1

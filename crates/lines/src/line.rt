@@ -1,6 +1,6 @@
 // The lines of entries and ends.
 ghost use Rattle.std.specs.Prelude.{◌≡◌, ◌+◌, ◌≤◌, length};
-ghost use Rattle.lines.specs.Text.{line, widthsOf, entryText, endText};
+ghost use Rattle.lines.specs.Text.{line, widths_of, entry_text, end_text};
 ghost use Rattle.lines.specs.Lines.{PutIs, total_of};
 
 use crate::column::{blank, put};
@@ -44,9 +44,9 @@ fn row(out: &mut [u8], start: usize, widths: [u8; 11], words: [u64; 11]) -> usiz
 }
 
 // The widths of an entry's columns, the kind's first.
-#[tactic(auto, unfolding(crate::specs::Text::widthsOf))]
+#[tactic(auto, unfolding(crate::specs::Text::widths_of))]
 fn widths_of(e: Entry) -> [u8; 11]
-    ensures { result ≡ widthsOf e }
+    ensures { result ≡ widths_of e }
 {
     match e {
         Entry::Image { .. } => [2, 8, 8, 8, 21, 0, 0, 0, 0, 0, 0],
@@ -59,14 +59,14 @@ fn widths_of(e: Entry) -> [u8; 11]
 
 pub fn entry_line(out: &mut [u8], at: usize, e: Entry) -> usize
     requires { at + 128 ≤ length out.old }
-    ensures { PutIs out.old at (entryText e) out.new result }
+    ensures { PutIs out.old at (entry_text e) out.new result }
 {
     row(&mut *out, at, widths_of(e), entry_words(e))
 }
 
 pub fn end_line(out: &mut [u8], at: usize, e: End) -> usize
     requires { at + 128 ≤ length out.old }
-    ensures { PutIs out.old at (endText e) out.new result }
+    ensures { PutIs out.old at (end_text e) out.new result }
 {
     row(
         &mut *out,

@@ -10,12 +10,12 @@ pub record AtMost (x m r : ℕ) : Type 0 where
   pub most : r ≤ m
 
 -- D "words = floor(c / 2^(4 − siz)) + 1"
-abbrev pub wordsIn : (siz c : ℕ) → ℕ
-wordsIn siz c = c / 2 ^ (4 - siz) + 1
+abbrev pub words_in : (siz c : ℕ) → ℕ
+words_in siz c = c / 2 ^ (4 - siz) + 1
 
 -- D "columns c = max(0, lrs − uls)", of bounds divided by 4
 abbrev pub words_of : (siz uls lrs : ℕ) → ℕ
-words_of siz uls lrs = wordsIn siz (lrs / 4 - uls / 4)
+words_of siz uls lrs = words_in siz (lrs / 4 - uls / 4)
 
 -- D "rows = 1 + max(0, lrt − ult)"
 abbrev pub rows_of : (ult lrt : ℕ) → ℕ
@@ -33,21 +33,21 @@ offset_of siz stride uls ult = uls / 4 * 2 ^ siz / 2 + stride * (ult / 4)
 abbrev pub granted : (start length : ℕ) → Bool
 granted start length = ltb (start + length) (2 ^ 64)
 
-abbrev pub pickRequest : Bool → LoadRequest → LoadRequest → LoadRequest
-pickRequest true a b = a
-pickRequest false a b = b
+abbrev pub pick_request : Bool → LoadRequest → LoadRequest → LoadRequest
+pick_request true a b = a
+pick_request false a b = b
 
 -- D "start = address + ..", "length = (rows − 1) × stride + 8 × words"
-unfoldable pub requestOf : (siz width address uls ult lrs lrt : ℕ) → LoadRequest
-requestOf siz width address uls ult lrs lrt =
+unfoldable pub request_of : (siz width address uls ult lrs lrt : ℕ) → LoadRequest
+request_of siz width address uls ult lrs lrt =
     let words = words_of siz uls lrs in
     let rows = rows_of ult lrt in
     let stride = stride_of siz width in
     let start = address + offset_of siz stride uls ult in
     let length = (rows - 1) * stride + 8 * words in
-    pickRequest (granted start length) (Load words rows stride start length) Overflow
+    pick_request (granted start length) (Load words rows stride start length) Overflow
 
 -- the rows that a request asks for
-abbrev pub rowsIn : LoadRequest → ℕ
-rowsIn (Load words rows stride start length) = rows
-rowsIn Overflow = 0
+abbrev pub rows_in_request : LoadRequest → ℕ
+rows_in_request (Load words rows stride start length) = rows
+rows_in_request Overflow = 0

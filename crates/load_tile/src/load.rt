@@ -1,6 +1,6 @@
 // The load request: what `load_tile_typed` asks of the host.
 ghost use Rattle.std.specs.Prelude.{◌≡◌, ◌+◌, ◌^◌, ◌≤◌, ◌-◌};
-ghost use Rattle.load_tile.specs.Load.{AtMost, wordsIn, words_of, rows_of, stride_of, offset_of, granted, requestOf};
+ghost use Rattle.load_tile.specs.Load.{AtMost, words_in, words_of, rows_of, stride_of, offset_of, granted, request_of};
 
 #[derive(Clone, Copy)]
 pub enum LoadRequest {
@@ -38,7 +38,7 @@ fn less(a: u16, b: u16) -> u64
 // The words of a row that has so many columns after its first. By cases, as a division by a number that is not constant would stand in every load.
 pub fn words_in(siz: u64, columns: u64) -> u64
     requires { siz ≤ 3 }
-    ensures { result ≡ wordsIn siz columns }
+    ensures { result ≡ words_in siz columns }
 {
     match siz {
         0 => columns / 16 + 1,
@@ -97,7 +97,7 @@ pub fn load_request(
     lrt: u16,
 ) -> LoadRequest
     requires { siz ≤ 3 }
-    ensures { result ≡ requestOf siz width address uls ult lrs lrt }
+    ensures { result ≡ request_of siz width address uls ult lrs lrt }
 {
     let words = words_per_row(siz, uls, lrs);
     let rows = row_count(ult, lrt);

@@ -6,16 +6,16 @@ use Rattle.std.specs.Int.Signed.{mag}
 use Rattle.std.proofs.Common.{◌∙◌, arith, lit<, lit≤, to_z, of_z}
 use mir.Val.{SFits}
 use Rattle.signed.specs.Diff.{zarith}
-use Rattle.signed.specs.Floor.{modulo, modulo-lt}
+use Rattle.signed.specs.Floor.{modulo, modulo_lt}
 use Rattle.signed.specs.Word.{rd, rdn, rk}
 use Rattle.measures.specs.Range.{Within}
 use Rattle.plan.specs.declared.types.Scaled.{Scaled}
 use Rattle.plan.specs.declared.types.Source.{Source}
 use Rattle.plan.specs.Sound.{SoundScaled}
 use Rattle.loads.specs.declared.types.Place.{Place}
-use Rattle.loads.specs.Coming.{loadableOf}
-use Rattle.loads.specs.Comes.{read-in, plus-in, less-in}
-use Rattle.loads.specs.Kept.{remain-in, rows_in}
+use Rattle.loads.specs.Coming.{loadable_of}
+use Rattle.loads.specs.Comes.{read_in, plus_in, less_in}
+use Rattle.loads.specs.Kept.{remain_in, rows_in}
 use Rattle.loads.specs.Sound.{SoundPass}
 
 -- a call's result, with the value that its contract gives it
@@ -30,29 +30,29 @@ pub few : (n : ℕ) → n ≤ 1 → Within 47 (pos (n + 1))
 few n h = record { low = omega zarith; high = omega zarith }
 
 pub odd_low : (v : ℤ) → modulo v 2 ≤ 1
-odd_low v = let h = modulo-lt v {m = 2} (lit< tt) in omega arith
+odd_low v = let h = modulo_lt v {m = 2} (lit< tt) in omega arith
 
 module _ (p : Place) (h : SoundPass p) where
   pub rows_is : to_z w64 (of_z w64 p.rows) ≡ p.rows
-  rows_is = read-in 43 p.rows (lit≤ tt) (rows_in p h)
+  rows_is = read_in 43 p.rows (lit≤ tt) (rows_in p h)
 
   pub remain_is : to_z w64 (of_z w64 p.walk.source.remain) ≡ p.walk.source.remain
-  remain_is = read-in 43 p.walk.source.remain (lit≤ tt) (remain-in p.walk h.walk)
+  remain_is = read_in 43 p.walk.source.remain (lit≤ tt) (remain_in p.walk h.walk)
 
   -- the rows of a pass's load
   pub load_in : Within 44 (p.rows +ℤ pos p.scaled.bilerp)
-  load_in = let s = h.scaled in plus-in 43 p.rows p.scaled.bilerp (rows_in p h) (omega (arith, s.bilerp))
+  load_in = let s = h.scaled in plus_in 43 p.rows p.scaled.bilerp (rows_in p h) (omega (arith, s.bilerp))
 
 module _ (z : Scaled) (h : SoundScaled z) where
   pub line_is : to_z w64 z.line ≡ pos z.line
   line_is = rdn z.line (omega (arith, h.line'))
 
   pub offset_is : to_z w64 z.x_offset ≡ pos z.x_offset
-  offset_is = rdn z.x_offset (omega (arith, h.x-offset))
+  offset_is = rdn z.x_offset (omega (arith, h.x_offset))
 
   pub line_in : Within 20 (pos z.line)
   line_in = let l = h.line' in record { low = omega zarith; high = omega zarith }
 
   -- the rows before the image's last
-  pub loadable_in : (source : Source) → Within 43 source.remain → Within 44 (loadableOf z source)
-  loadable_in source w = less-in 43 source.remain z.split w (omega (arith, h.split))
+  pub loadable_in : (source : Source) → Within 43 source.remain → Within 44 (loadable_of z source)
+  loadable_in source w = less_in 43 source.remain z.split w (omega (arith, h.split))

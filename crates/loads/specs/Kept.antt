@@ -5,19 +5,19 @@ use Rattle.std.proofs.Common.{sym, ap, ◌∙◌, arith, eqb-true, le-ltb}
 use Rattle.std.proofs.lemmas.Bool.{false≢true}
 use Rattle.std.specs.Int.Signed.{lt_z}
 use Rattle.signed.specs.Diff.{up, dn, zdiff, zparts, zarith}
-use Rattle.signed.specs.Floor.{floorDiv, modulo}
+use Rattle.signed.specs.Floor.{floor_div, modulo}
 use Rattle.plan.specs.declared.types.Scaled.{Scaled}
 use Rattle.plan.specs.declared.types.Source.{Source}
 use Rattle.plan.specs.declared.types.Walk.{Walk}
 use Rattle.plan.specs.Out.{Out, ◌>>=◌, yield}
 use Rattle.plan.specs.Out.Out.{go, stop}
-use Rattle.plan.specs.Load.{sourceAddress}
+use Rattle.plan.specs.Load.{source_address}
 use Rattle.plan.specs.Sound.{SoundScaled}
-use Rattle.plan.specs.Scaled.{drawOf, leftAfter, lines_of, nextPass, afterDraw, advance}
+use Rattle.plan.specs.Scaled.{draw_of, left_after, lines_of, next_pass, after_draw, advance}
 use Rattle.loads.specs.declared.types.Place.{Place}
 use Rattle.measures.specs.Range.{Within}
 use Rattle.loads.specs.Comes.{within}
-use Rattle.loads.specs.Loads.{advance-on, advance-wrap}
+use Rattle.loads.specs.Loads.{advance_on, advance_wrap}
 use Rattle.loads.specs.Sound.{SoundWalk, SoundPass}
 
 -- what a move does to the rows left: d of them, or, where none is left, the image's rows more
@@ -26,39 +26,39 @@ pub record Left (d : ℤ) (n : ℕ) (r : ℤ) : Type 0 where
   pub high : up r ≤ max (up d) n
 
 -- the rows left of a source that a plan goes on with
-abbrev remainOf : Out Source → ℤ
-remainOf (go es s) = s.remain
-remainOf (stop es l v) = pos 0
+abbrev remain_of : Out Source → ℤ
+remain_of (go es s) = s.remain
+remain_of (stop es l v) = pos 0
 
 abbrev goes : Out Source → Bool
 goes (go es s) = true
 goes (stop es l v) = false
 
 moved : (o : Out ℕ) (r : ℤ) (next : Source) → yield next ≡ (o >>= (λ p. yield (record { pointer = p; remain = r }))) → next.remain ≡ r
-moved (go es p) r next e = ap remainOf e
+moved (go es p) r next e = ap remain_of e
 moved (stop es l v) r next e = absurd (false≢true (sym (ap goes e)))
 
-pub stay-left : (d r : ℤ) (n : ℕ) → r ≡ d → Left d n r
-stay-left d r n e = rw e (record { low = omega arith; high = omega arith })
+pub stay_left : (d r : ℤ) (n : ℕ) → r ≡ d → Left d n r
+stay_left d r n e = rw e (record { low = omega arith; high = omega arith })
 
 turned : (d r : ℤ) (n : ℕ) → r ≡ d +ℤ pos n → lt_z (pos 0) d ≡ false → Left d n r
 turned (pos d) r n e t = rw e (record { low = omega arith; high = omega zarith })
 turned (negsuc d) (pos r) n e t = let k = simp zdiff at e in record { low = omega zarith; high = omega zarith }
 turned (negsuc d) (negsuc r) n e t = let k = simp zdiff at e in record { low = omega zarith; high = omega zarith }
 
-pub advance-left : (z : Scaled) (src : Source) (rows : ℤ) (next : Source) → yield next ≡ advance z src rows → Left (src.remain -ℤ rows) z.source_rows next.remain
-advance-left z src rows next e = by (lt_z (pos 0) (src.remain -ℤ rows)) refl
+pub advance_left : (z : Scaled) (src : Source) (rows : ℤ) (next : Source) → yield next ≡ advance z src rows → Left (src.remain -ℤ rows) z.source_rows next.remain
+advance_left z src rows next e = by (lt_z (pos 0) (src.remain -ℤ rows)) refl
   where
     by : (t : Bool) → lt_z (pos 0) (src.remain -ℤ rows) ≡ t → Left (src.remain -ℤ rows) z.source_rows next.remain
-    by true t = stay-left (src.remain -ℤ rows) next.remain z.source_rows (moved (sourceAddress src.pointer (pos z.stride *ℤ rows)) (src.remain -ℤ rows) next (e ∙ advance-on z src rows t))
+    by true t = stay_left (src.remain -ℤ rows) next.remain z.source_rows (moved (source_address src.pointer (pos z.stride *ℤ rows)) (src.remain -ℤ rows) next (e ∙ advance_on z src rows t))
     by false t =
         turned (src.remain -ℤ rows) next.remain z.source_rows
-        (moved (sourceAddress z.address (neg_ℤ (src.remain -ℤ rows) *ℤ pos z.stride +ℤ pos z.x_offset)) (src.remain -ℤ rows +ℤ pos z.source_rows) next (e ∙ advance-wrap z src rows t)) t
+        (moved (source_address z.address (neg_ℤ (src.remain -ℤ rows) *ℤ pos z.stride +ℤ pos z.x_offset)) (src.remain -ℤ rows +ℤ pos z.source_rows) next (e ∙ advance_wrap z src rows t)) t
 
 -- the rows left after at most 512 rows, or after rows that were negative
 module _ (a rows r : ℤ) (n : ℕ) (l : Left (a -ℤ rows) n r) (h : rows ≤ℤ pos 512) where
-  left-low : dn r ≤ dn a + 512
-  left-low = by (a -ℤ rows) (dn (a -ℤ rows)) l.low low
+  left_low : dn r ≤ dn a + 512
+  left_low = by (a -ℤ rows) (dn (a -ℤ rows)) l.low low
     where
       low : dn (a -ℤ rows) ≤ dn a + 512
       low = simp zdiff (simp zparts (omega zarith))
@@ -66,8 +66,8 @@ module _ (a rows r : ℤ) (n : ℕ) (l : Left (a -ℤ rows) n r) (h : rows ≤�
       by : (d : ℤ) (m : ℕ) → dn r ≤ m → m ≤ dn a + 512 → dn r ≤ dn a + 512
       by d m p q = omega arith
 
-  left-high : up r ≤ max (up a + dn rows) n
-  left-high = by (up (a -ℤ rows)) l.high high
+  left_high : up r ≤ max (up a + dn rows) n
+  left_high = by (up (a -ℤ rows)) l.high high
     where
       high : up (a -ℤ rows) ≤ up a + dn rows
       high = simp zdiff (simp zparts (omega zarith))
@@ -76,75 +76,75 @@ module _ (a rows r : ℤ) (n : ℕ) (l : Left (a -ℤ rows) n r) (h : rows ≤�
       by m p q = omega arith
 
 -- the walk after a pass without a line
-module _ (z : Scaled) (w : Walk) (s : Source) (zs : SoundScaled z) (h : SoundWalk w) (t : eqb (drawOf w) 0 ≡ true) (e : yield s ≡ advance z w.source w.slice_rows) where
-  pub idle-kept : SoundWalk (nextPass z w.frame_y w.frame_remain w.count s)
-  idle-kept =
-      let l = advance-left z w.source w.slice_rows s e in
-      let lo = left-low w.source.remain w.slice_rows s.remain z.source_rows l h.slice-rows' in
-      let hi = left-high w.source.remain w.slice_rows s.remain z.source_rows l h.slice-rows' in
-      let d : drawOf w ≡ 0 = eqb-true (drawOf w) 0 t in
+module _ (z : Scaled) (w : Walk) (s : Source) (zs : SoundScaled z) (h : SoundWalk w) (t : eqb (draw_of w) 0 ≡ true) (e : yield s ≡ advance z w.source w.slice_rows) where
+  pub idle_kept : SoundWalk (next_pass z w.frame_y w.frame_remain w.count s)
+  idle_kept =
+      let l = advance_left z w.source w.slice_rows s e in
+      let lo = left_low w.source.remain w.slice_rows s.remain z.source_rows l h.slice_rows' in
+      let hi = left_high w.source.remain w.slice_rows s.remain z.source_rows l h.slice_rows' in
+      let d : draw_of w ≡ 0 = eqb-true (draw_of w) 0 t in
       by w.count h.count d lo hi h.low h.high
     where
-      by : (v : ℤ) → pos 0 ≤ℤ v → up (floorDiv v 1024) ≡ 0 → dn s.remain ≤ dn w.source.remain + 512 → up s.remain ≤ max (up w.source.remain + dn w.slice_rows) z.source_rows
+      by : (v : ℤ) → pos 0 ≤ℤ v → up (floor_div v 1024) ≡ 0 → dn s.remain ≤ dn w.source.remain + 512 → up s.remain ≤ max (up w.source.remain + dn w.slice_rows) z.source_rows
           → dn w.source.remain + 1280000 * up w.frame_remain ≤ 2 ^ 40 + 20000 * (up v / 16) → up w.source.remain + dn w.slice_rows ≤ 2 ^ 28
-          → SoundWalk (nextPass z w.frame_y w.frame_remain v s)
+          → SoundWalk (next_pass z w.frame_y w.frame_remain v s)
       by (pos c) p d lo hi q r =
           record {
-            frame-y = h.frame-y;
+            frame_y = h.frame_y;
             lines = h.lines;
             count = omega zarith;
-            count' = omega (zarith, zs.frame-rows');
+            count' = omega (zarith, zs.frame_rows');
             slice_rows = omega zarith;
-            slice-rows' = omega (zarith, zs.image-rows');
+            slice_rows' = omega (zarith, zs.image_rows');
             t = omega arith;
-            low = omega (arith, zs.frame-rows);
-            high = omega (arith, zs.source-rows');
+            low = omega (arith, zs.frame_rows);
+            high = omega (arith, zs.source_rows');
           }
       by (negsuc c) p d lo hi q r = absurd (omega zarith)
 
-pub not-over : (v : ℤ) → pos 1 ≤ℤ v → lt_z v (pos 0) ≡ false
-not-over (pos n) h = le-ltb n 0 (omega arith)
-not-over (negsuc n) h = absurd (omega zarith)
+pub not_over : (v : ℤ) → pos 1 ≤ℤ v → lt_z v (pos 0) ≡ false
+not_over (pos n) h = le-ltb n 0 (omega arith)
+not_over (negsuc n) h = absurd (omega zarith)
 
 -- where lines are left, the pass draws all its lines
-all-drawn : (w : Walk) (draw lines : ℕ) → lines ≡ lines_of w draw → pos 1 ≤ℤ leftAfter w draw → lines ≡ draw
-all-drawn w draw lines e h = e ∙ (rw (not-over (leftAfter w draw) h))
+all_drawn : (w : Walk) (draw lines : ℕ) → lines ≡ lines_of w draw → pos 1 ≤ℤ left_after w draw → lines ≡ draw
+all_drawn w draw lines e h = e ∙ (rw (not_over (left_after w draw) h))
 
 -- the walk after a pass that draws, where lines are left
-module _ (p : Place) (next : Source) (h : SoundPass p) (l : Left (p.walk.source.remain -ℤ p.rows) p.scaled.source_rows next.remain) (more : pos 1 ≤ℤ leftAfter p.walk (drawOf p.walk)) where
-  pub draw-kept : SoundWalk (afterDraw p.scaled p.walk (drawOf p.walk) p.lines next)
-  draw-kept =
+module _ (p : Place) (next : Source) (h : SoundPass p) (l : Left (p.walk.source.remain -ℤ p.rows) p.scaled.source_rows next.remain) (more : pos 1 ≤ℤ left_after p.walk (draw_of p.walk)) where
+  pub draw_kept : SoundWalk (after_draw p.scaled p.walk (draw_of p.walk) p.lines next)
+  draw_kept =
       let w = p.walk in
       let g = h.walk in
-      let lo = left-low w.source.remain p.rows next.remain p.scaled.source_rows l h.rows' in
-      let hi = left-high w.source.remain p.rows next.remain p.scaled.source_rows l h.rows' in
-      by w.count w.frame_remain g.count more (all-drawn w (drawOf w) p.lines h.lines more) (ap dn (h.whole more)) lo hi g.low g.high g.frame-y g.lines
+      let lo = left_low w.source.remain p.rows next.remain p.scaled.source_rows l h.rows' in
+      let hi = left_high w.source.remain p.rows next.remain p.scaled.source_rows l h.rows' in
+      by w.count w.frame_remain g.count more (all_drawn w (draw_of w) p.lines h.lines more) (ap dn (h.whole more)) lo hi g.low g.high g.frame_y g.lines
     where
-      by : (v f : ℤ) → pos 0 ≤ℤ v → pos 1 ≤ℤ (f -ℤ pos (up (floorDiv v 1024))) → p.lines ≡ up (floorDiv v 1024) → dn p.rows ≡ dn p.walk.slice_rows
+      by : (v f : ℤ) → pos 0 ≤ℤ v → pos 1 ≤ℤ (f -ℤ pos (up (floor_div v 1024))) → p.lines ≡ up (floor_div v 1024) → dn p.rows ≡ dn p.walk.slice_rows
           → dn next.remain ≤ dn p.walk.source.remain + 512 → up next.remain ≤ max (up p.walk.source.remain + dn p.rows) p.scaled.source_rows
           → dn p.walk.source.remain + 1280000 * up f ≤ 2 ^ 40 + 20000 * (up v / 16) → up p.walk.source.remain + dn p.walk.slice_rows ≤ 2 ^ 28 → p.walk.frame_y + up f ≤ 4096 → up f ≤ 1023
-          → SoundWalk (nextPass p.scaled (p.walk.frame_y + p.lines) (f -ℤ pos (up (floorDiv v 1024))) (pos (modulo v 1024)) next)
+          → SoundWalk (next_pass p.scaled (p.walk.frame_y + p.lines) (f -ℤ pos (up (floor_div v 1024))) (pos (modulo v 1024)) next)
       by (pos c) (pos f) vp fp ln dr lo hi q r fy fl =
           let k = simp zdiff at fp in
           let m : up (pos f -ℤ pos (c / 1024)) ≡ f - c / 1024 = simp zdiff (simp zparts (omega zarith)) in
           let zs = h.scaled in
           record {
-            frame-y = rw m (omega zarith);
+            frame_y = rw m (omega zarith);
             lines = rw m (omega zarith);
             count = omega zarith;
-            count' = omega (zarith, zs.frame-rows');
+            count' = omega (zarith, zs.frame_rows');
             slice_rows = omega zarith;
-            slice-rows' = omega (zarith, zs.image-rows');
+            slice_rows' = omega (zarith, zs.image_rows');
             t = omega arith;
-            low = rw m (omega (zarith, zs.frame-rows));
-            high = omega (arith, zs.source-rows');
+            low = rw m (omega (zarith, zs.frame_rows));
+            high = omega (arith, zs.source_rows');
           }
       by (pos c) (negsuc f) vp fp ln dr lo hi q r fy fl = let k = simp zdiff at fp in absurd (omega zarith)
       by (negsuc c) f vp fp ln dr lo hi q r fy fl = absurd (omega zarith)
 
 -- the ranges of a walk's row counts, as powers of two
-pub remain-in : (w : Walk) → SoundWalk w → Within 43 w.source.remain
-remain-in w h = by w.count h.count h.count' h.low h.high
+pub remain_in : (w : Walk) → SoundWalk w → Within 43 w.source.remain
+remain_in w h = by w.count h.count h.count' h.low h.high
   where
     by : (v : ℤ) → pos 0 ≤ℤ v → v ≤ℤ pos (2 ^ 31) → dn w.source.remain + 1280000 * up w.frame_remain ≤ 2 ^ 40 + 20000 * (up v / 16) → up w.source.remain + dn w.slice_rows ≤ 2 ^ 28 → Within 43 w.source.remain
     by (pos c) p q l k = within 43 w.source.remain (omega zarith) (omega zarith)
@@ -154,4 +154,4 @@ pub rows_in : (p : Place) → SoundPass p → Within 43 p.rows
 rows_in p h = let a = h.rows in let b = h.rows' in record { low = omega zarith; high = omega zarith }
 
 pub slice_in : (w : Walk) → SoundWalk w → Within 43 w.slice_rows
-slice_in w h = let a = h.slice_rows in let b = h.slice-rows' in record { low = omega zarith; high = omega zarith }
+slice_in w h = let a = h.slice_rows in let b = h.slice_rows' in record { low = omega zarith; high = omega zarith }

@@ -4,7 +4,7 @@ use Rattle.std.specs.Prelude.{◌≡◌, ℕ, suc, ◌+◌, ◌-◌, ◌*◌, �
 use Rattle.std.specs.Int.Signed.{lt_z, le_z}
 use Rattle.signed.specs.Diff.{up, dn}
 use Rattle.signed.specs.Floor.{modulo}
-use Rattle.signed.specs.Cast.{minZ}
+use Rattle.signed.specs.Cast.{min_z}
 use Rattle.measures.specs.Measure.{quarters, whole}
 use Rattle.measures.specs.Range.{Below, Within}
 use Rattle.plan.specs.declared.types.Scaled.{Scaled}
@@ -16,7 +16,7 @@ use Rattle.plan.specs.Next.{cons, ended}
 use Rattle.plan.specs.Out.{Out, Plan, emit}
 use Rattle.plan.specs.Out.Out.{stop}
 use Rattle.plan.specs.Sound.{SoundScaled, EntryIn, Narrow}
-use Rattle.plan.specs.Scaled.{drawOf, leftAfter, lines_of, afterDraw}
+use Rattle.plan.specs.Scaled.{draw_of, left_after, lines_of, after_draw}
 use Rattle.loads.specs.declared.types.Part.{Part}
 use Rattle.loads.specs.declared.types.Piece.{Piece}
 use Rattle.loads.specs.declared.types.Piece.TheVariants as piece
@@ -36,16 +36,16 @@ use Rattle.loads.specs.declared.types.Loaded.{Loaded}
 use Rattle.loads.specs.declared.types.Loaded.TheVariants as loaded
 use Rattle.loads.specs.declared.types.ScaledNext.{ScaledNext}
 use Rattle.loads.specs.declared.types.ScaledNext.TheVariants as next
-use Rattle.loads.specs.Coming.{loadableOf, splitFrom, splitWidth, passFrom, afterPart, dueWalk, comingReached}
+use Rattle.loads.specs.Coming.{loadable_of, split_from, split_width, pass_from, after_part, due_walk, coming_reached}
 
 -- a walk before a pass. Each pass lowers 64 × lines left − count / 16, and `remain` by 512 rows at the most: `low` ties the two together
 pub record SoundWalk (w : Walk) : Type 0 where
-  pub frame-y : w.frame_y + up w.frame_remain ≤ 4096
+  pub frame_y : w.frame_y + up w.frame_remain ≤ 4096
   pub lines : up w.frame_remain ≤ 1023
   pub count : pos 0 ≤ℤ w.count
   pub count' : w.count ≤ℤ pos (2 ^ 31)
   pub slice_rows : neg_ℤ (pos (2 ^ 27)) ≤ℤ w.slice_rows
-  pub slice-rows' : w.slice_rows ≤ℤ pos 512
+  pub slice_rows' : w.slice_rows ≤ℤ pos 512
   pub t : Below 5 w.t.0
   pub low : dn w.source.remain + 1280000 * up w.frame_remain ≤ 2 ^ 40 + 20000 * (up w.count / 16)
   pub high : up w.source.remain + dn w.slice_rows ≤ 2 ^ 28
@@ -57,25 +57,25 @@ pub record Runs (z : Scaled) (w : Walk) : Type 0 where
   pub left : pos 1 ≤ℤ w.frame_remain
 
 -- R 354, 366–370 over their numbers
-abbrev pub dueLines : ℤ → ℕ
-dueLines count = up (whole count)
+abbrev pub due_lines : ℤ → ℕ
+due_lines count = up (whole count)
 
-abbrev pub cutLines : (draw : ℕ) → (left : ℤ) → ℕ
-cutLines draw left = cond (lt_z left (pos 0)) (up (pos draw +ℤ left)) draw
+abbrev pub cut_lines : (draw : ℕ) → (left : ℤ) → ℕ
+cut_lines draw left = cond (lt_z left (pos 0)) (up (pos draw +ℤ left)) draw
 
-abbrev pub cutRows : Scaled → (rows left : ℤ) → ℤ
-cutRows z rows left = cond (lt_z left (pos 0)) (minZ (rows +ℤ whole (left *ℤ pos z.scale_h.0) +ℤ pos 1) (pos z.image_rows)) rows
+abbrev pub cut_rows : Scaled → (rows left : ℤ) → ℤ
+cut_rows z rows left = cond (lt_z left (pos 0)) (min_z (rows +ℤ whole (left *ℤ pos z.scale_h.0) +ℤ pos 1) (pos z.image_rows)) rows
 
 -- a pass that draws: its rows and lines are those of the walk
 pub record SoundPass (p : Place) : Type 0 where
   pub scaled : SoundScaled p.scaled
   pub walk : SoundWalk p.walk
-  pub draws : 1 ≤ drawOf p.walk
-  pub lines : p.lines ≡ lines_of p.walk (drawOf p.walk)
+  pub draws : 1 ≤ draw_of p.walk
+  pub lines : p.lines ≡ lines_of p.walk (draw_of p.walk)
   pub left : 1 ≤ up p.walk.frame_remain
   pub rows : neg_ℤ (pos (2 ^ 28)) ≤ℤ p.rows
   pub rows' : p.rows ≤ℤ pos 512
-  pub whole : pos 1 ≤ℤ leftAfter p.walk (drawOf p.walk) → p.rows ≡ p.walk.slice_rows
+  pub whole : pos 1 ≤ℤ left_after p.walk (draw_of p.walk) → p.rows ≡ p.walk.slice_rows
 
 -- the part that is given
 pub record SoundPart (q : Part) : Type 0 where
@@ -84,11 +84,11 @@ pub record SoundPart (q : Part) : Type 0 where
 
 -- the numbers of the image's last row
 pub record SplitIs (z : Scaled) (src : Source) (s : Split) : Type 0 where
-  pub odd : s.odd ≡ modulo (loadableOf z src) 2
+  pub odd : s.odd ≡ modulo (loadable_of z src) 2
   pub odd' : s.odd ≤ 1
-  pub from : s.from ≡ splitFrom z src
+  pub from : s.from ≡ split_from z src
   pub from' : Within 61 s.from
-  pub width : s.width ≡ splitWidth z
+  pub width : s.width ≡ split_width z
   pub width' : Within 20 s.width
 
 pub record SoundPiece (p : Place) : Type 0 where
@@ -98,73 +98,73 @@ pub record SoundPiece (p : Place) : Type 0 where
 -- before the rectangle: where another pass follows, its walk is sound
 pub record SoundRect (p : Place) : Type 0 where
   pub pass : SoundPass p
-  pub next : pos 1 ≤ℤ leftAfter p.walk (drawOf p.walk) → SoundWalk (afterDraw p.scaled p.walk (drawOf p.walk) p.lines p.next)
+  pub next : pos 1 ≤ℤ left_after p.walk (draw_of p.walk) → SoundWalk (after_draw p.scaled p.walk (draw_of p.walk) p.lines p.next)
 
 -- before the first pass
 pub record SoundStart (p : Place) : Type 0 where
   pub scaled : SoundScaled p.scaled
   pub walk : SoundWalk p.walk
 
-abbrev pub soundAt : Stage → Place → Type 0
-soundAt stage.First p = SoundStart p
-soundAt stage.Second p = SoundStart p
-soundAt stage.Whole p = SoundPass p
-soundAt stage.WholeLoad p = SoundPass p
-soundAt stage.Tile p = SoundPiece p
-soundAt stage.Image p = SoundPiece p
-soundAt stage.Load p = SoundPiece p
-soundAt stage.Last p = SoundPass p
-soundAt stage.Size p = SoundStart p
-soundAt stage.Rect p = SoundRect p
+abbrev pub SoundAt : Stage → Place → Type 0
+SoundAt stage.First p = SoundStart p
+SoundAt stage.Second p = SoundStart p
+SoundAt stage.Whole p = SoundPass p
+SoundAt stage.WholeLoad p = SoundPass p
+SoundAt stage.Tile p = SoundPiece p
+SoundAt stage.Image p = SoundPiece p
+SoundAt stage.Load p = SoundPiece p
+SoundAt stage.Last p = SoundPass p
+SoundAt stage.Size p = SoundStart p
+SoundAt stage.Rect p = SoundRect p
 
-abbrev pub soundReached : Reached → Type 0
-soundReached (reached.At s p) = soundAt s p
-soundReached (reached.Ended v) = Unit {0}
+abbrev pub SoundReached : Reached → Type 0
+SoundReached (reached.At s p) = SoundAt s p
+SoundReached (reached.Ended v) = Unit {0}
 
 -- the entries that come after a part, its pass's rectangle included, at the most
-abbrev pub afterPiece : Piece → ℕ
-afterPiece piece.Start = 13
-afterPiece piece.Top = 10
-afterPiece piece.SplitB = 7
-afterPiece piece.SplitA = 4
-afterPiece piece.Rest = 1
+abbrev pub after_piece : Piece → ℕ
+after_piece piece.Start = 13
+after_piece piece.Top = 10
+after_piece piece.SplitB = 7
+after_piece piece.SplitA = 4
+after_piece piece.Rest = 1
 
 -- the entries of later passes, at the most
-abbrev pub leftPass : Place → ℕ
-leftPass p = 14 * (up p.walk.frame_remain - 1)
+abbrev pub left_pass : Place → ℕ
+left_pass p = 14 * (up p.walk.frame_remain - 1)
 
 -- the entries that are still to come, at the most: 14 for each line that is left, and what the present pass has left
 abbrev pub left_at : Stage → Place → ℕ
 left_at stage.First p = 3 + 14 * up p.walk.frame_remain
 left_at stage.Second p = 2 + 14 * up p.walk.frame_remain
-left_at stage.Whole p = 3 + leftPass p
-left_at stage.WholeLoad p = 2 + leftPass p
-left_at stage.Tile p = 3 + afterPiece p.piece + leftPass p
-left_at stage.Image p = 2 + afterPiece p.piece + leftPass p
-left_at stage.Load p = 1 + afterPiece p.piece + leftPass p
-left_at stage.Last p = 2 + leftPass p
+left_at stage.Whole p = 3 + left_pass p
+left_at stage.WholeLoad p = 2 + left_pass p
+left_at stage.Tile p = 3 + after_piece p.piece + left_pass p
+left_at stage.Image p = 2 + after_piece p.piece + left_pass p
+left_at stage.Load p = 1 + after_piece p.piece + left_pass p
+left_at stage.Last p = 2 + left_pass p
 left_at stage.Size p = 1 + 14 * up p.walk.frame_remain
-left_at stage.Rect p = 1 + leftPass p
+left_at stage.Rect p = 1 + left_pass p
 
 -- the entries after a turn's, at the most
-abbrev pub leftTurn : Turn → Place → ℕ
-leftTurn turn.Load p = afterPiece p.piece + leftPass p
-leftTurn turn.Last p = 1 + leftPass p
-leftTurn (turn.Pass d) p = 14 * up (dueWalk d p).frame_remain
+abbrev pub left_turn : Turn → Place → ℕ
+left_turn turn.Load p = after_piece p.piece + left_pass p
+left_turn turn.Last p = 1 + left_pass p
+left_turn (turn.Pass d) p = 14 * up (due_walk d p).frame_remain
 
-abbrev pub leftReached : Reached → ℕ
-leftReached (reached.At s p) = left_at s p
-leftReached (reached.Ended v) = 0
+abbrev pub left_reached : Reached → ℕ
+left_reached (reached.At s p) = left_at s p
+left_reached (reached.Ended v) = 0
 
 -- r has just the plan to come, is sound, and gives at most n entries
 pub record Reaches (plan : Plan) (n : ℕ) (r : Reached) : Type 0 where
-  pub is : comingReached r ≡ plan
-  pub sound : soundReached r
-  pub left : leftReached r ≤ n
+  pub is : coming_reached r ≡ plan
+  pub sound : SoundReached r
+  pub left : left_reached r ≤ n
 
 -- a pass that has just the plan to come after the part that is given, and gives at most n entries; or the end
 abbrev pub Begins : Plan → ℕ → Begun → Type 0
-Begins plan n (begun.At k p) = SoundPass p × ((passFrom p (afterPart k p) ≡ plan) × (afterPiece k + leftPass p ≤ n))
+Begins plan n (begun.At k p) = SoundPass p × ((pass_from p (after_part k p) ≡ plan) × (after_piece k + left_pass p ≤ n))
 Begins plan n (begun.Ended v) = ended [] v ≡ plan
 
 -- the part after which a choice is made, and the test that leads to it: R 175, 184, 196, 212
@@ -178,28 +178,28 @@ before choice.Last = piece.SplitA
 before choice.Move = piece.Rest
 
 abbrev pub Meets : Choice → Place → Type 0
-Meets choice.Whole p = le_z (p.rows +ℤ pos p.scaled.bilerp) (loadableOf p.scaled p.walk.source) ≡ true
-Meets choice.Top p = (le_z (p.rows +ℤ pos p.scaled.bilerp) (loadableOf p.scaled p.walk.source) ≡ false) × (lt_z (pos 0) (p.rows +ℤ pos p.scaled.bilerp -ℤ p.walk.source.remain) ≡ true)
+Meets choice.Whole p = le_z (p.rows +ℤ pos p.scaled.bilerp) (loadable_of p.scaled p.walk.source) ≡ true
+Meets choice.Top p = (le_z (p.rows +ℤ pos p.scaled.bilerp) (loadable_of p.scaled p.walk.source) ≡ false) × (lt_z (pos 0) (p.rows +ℤ pos p.scaled.bilerp -ℤ p.walk.source.remain) ≡ true)
 Meets choice.SplitB p = eqb p.scaled.split 0 ≡ false
 Meets choice.SplitA p = Unit {0}
-Meets choice.Rest p = lt_z (pos 0) (loadableOf p.scaled p.walk.source) ≡ true
-Meets choice.Last p = lt_z (pos 0) (loadableOf p.scaled p.walk.source) ≡ false
+Meets choice.Rest p = lt_z (pos 0) (loadable_of p.scaled p.walk.source) ≡ true
+Meets choice.Last p = lt_z (pos 0) (loadable_of p.scaled p.walk.source) ≡ false
 Meets choice.Move p = Unit {0}
 
 -- the choice after a part: what is to come is the same, and its test holds
 pub record Chose (k : Piece) (p : Place) (c : Choice) : Type 0 where
-  pub is : passFrom p (afterPart (before c) p) ≡ passFrom p (afterPart k p)
-  pub left : afterPiece (before c) ≤ afterPiece k
+  pub is : pass_from p (after_part (before c) p) ≡ pass_from p (after_part k p)
+  pub left : after_piece (before c) ≤ after_piece k
   pub meets : Meets c p
 
 -- a load's answer as a part of a plan
-abbrev pub loadedOut : Loaded → Out (Unit {0})
-loadedOut (loaded.Entry e) = emit e
-loadedOut (loaded.Refused e) = stop [] (e ∷ []) verdict.Address
+abbrev pub loaded_out : Loaded → Out (Unit {0})
+loaded_out (loaded.Entry e) = emit e
+loaded_out (loaded.Refused e) = stop [] (e ∷ []) verdict.Address
 
 -- what a step answers is the first of the plan, and what it reaches is the rest
 abbrev pub Gave : Plan → ℕ → ScaledNext → Type 0
-Gave plan n (next.Entry e r) = (plan ≡ cons e (comingReached r)) × (soundReached r × ((suc (leftReached r) ≤ n) × EntryIn e))
+Gave plan n (next.Entry e r) = (plan ≡ cons e (coming_reached r)) × (SoundReached r × ((suc (left_reached r) ≤ n) × EntryIn e))
 Gave plan n (next.Refused e) = (plan ≡ ended (e ∷ []) verdict.Address) × Narrow e
 
 -- a clipped frame that is not empty

@@ -3,10 +3,10 @@ ghost use Rattle.std.specs.Prelude.{◌≡◌, true, ◌+◌, ◌-◌, pos, ◌-
 ghost use Rattle.std.specs.Int.Signed.{lt_z};
 ghost use Rattle.measures.specs.Range.{Within};
 ghost use Rattle.plan.specs.Sound.{SoundScaled};
-ghost use Rattle.plan.specs.Scaled.{back as backOf};
-ghost use Rattle.loads.specs.Coming.{sumOut, passFrom, partThen, wholePart, topThen, partsFrom, afterPart, afterWhole};
-ghost use Rattle.loads.specs.Loads.{partBad};
-ghost use Rattle.loads.specs.Sound.{SoundPass, SoundPart, SplitIs, Reaches, Meets, Chose, leftPass, afterPiece};
+ghost use Rattle.plan.specs.Scaled.{back as back_of};
+ghost use Rattle.loads.specs.Coming.{sum_out, pass_from, part_then, whole_part, top_then, parts_from, after_part, after_whole};
+ghost use Rattle.loads.specs.Loads.{part_bad};
+ghost use Rattle.loads.specs.Sound.{SoundPass, SoundPart, SplitIs, Reaches, Meets, Chose, left_pass, after_piece};
 ghost use Rattle.loads.specs.declared.types.Piece.TheVariants.{Start, Top, SplitB, SplitA, Rest};
 
 use crate::rows::{difference, less, plus, sum, times};
@@ -17,7 +17,7 @@ use plan::{Scaled, Source};
 
 // Verdict 8: no rows, no columns, or a place before texture memory.
 fn part_bad(rows: i64, destination: i64, width: i64) -> bool
-    ensures { result ≡ partBad rows destination width }
+    ensures { result ≡ part_bad rows destination width }
 {
     if rows <= 0 {
         return true;
@@ -32,7 +32,7 @@ fn part_bad(rows: i64, destination: i64, width: i64) -> bool
 fn enter(k: Piece, pointer: u64, rows: i64, destination: i64, width: i64, p: Place) -> Reached
     requires sound_pass { SoundPass p }
     requires within { (Within 47 rows) × Within 47 width }
-    ensures { Reaches (partThen k p pointer rows destination width) (3 + afterPiece k + leftPass p) result }
+    ensures { Reaches (part_then k p pointer rows destination width) (3 + after_piece k + left_pass p) result }
 {
     if part_bad(rows, destination, width) {
         return Reached::Ended(Verdict::Piece);
@@ -62,7 +62,7 @@ fn enter(k: Piece, pointer: u64, rows: i64, destination: i64, width: i64, p: Pla
 // The whole load in one part, over the tile that stands.
 pub fn whole_part(p: Place) -> Part
     requires { SoundPass p }
-    ensures { (result ≡ wholePart p) × SoundPart result }
+    ensures { (result ≡ whole_part p) × SoundPart result }
 {
     let z = p.scaled;
     let w = p.walk;
@@ -78,7 +78,7 @@ pub fn whole_part(p: Place) -> Part
 // One row back, where a load must start at an even row.
 fn back(z: Scaled, odd: u64, pointer: u64) -> Sum
     requires { SoundScaled z }
-    ensures { sumOut result ≡ backOf z odd pointer }
+    ensures { sum_out result ≡ back_of z odd pointer }
 {
     if odd == 0 {
         return Sum::At(pointer);
@@ -89,7 +89,7 @@ fn back(z: Scaled, odd: u64, pointer: u64) -> Sum
 // After the rows up to the image's end: the move, and the rectangle.
 fn moved(p: Place) -> Reached
     requires { SoundPass p }
-    ensures { Reaches (passFrom p (afterPart Rest p)) (1 + leftPass p) result }
+    ensures { Reaches (pass_from p (after_part Rest p)) (1 + left_pass p) result }
 {
     let w = p.walk;
     let source = w.source;
@@ -106,7 +106,7 @@ fn moved(p: Place) -> Reached
 // The move where no row wraps.
 pub fn moved_on(p: Place) -> Reached
     requires { SoundPass p }
-    ensures { Reaches (passFrom p (afterWhole p)) (1 + leftPass p) result }
+    ensures { Reaches (pass_from p (after_whole p)) (1 + left_pass p) result }
 {
     let z = p.scaled;
     let w = p.walk;
@@ -128,7 +128,7 @@ pub fn moved_on(p: Place) -> Reached
 fn rest(p: Place) -> Reached
     requires sound_pass { SoundPass p }
     requires meets { Meets Choice.Rest p }
-    ensures { Reaches (passFrom p (afterPart SplitA p)) (4 + leftPass p) result }
+    ensures { Reaches (pass_from p (after_part SplitA p)) (4 + left_pass p) result }
 {
     let z = p.scaled;
     let w = p.walk;
@@ -152,7 +152,7 @@ fn split(z: Scaled, source: Source) -> Split
 
 fn split_a(p: Place) -> Reached
     requires { SoundPass p }
-    ensures { Reaches (passFrom p (afterPart SplitB p)) (7 + leftPass p) result }
+    ensures { Reaches (pass_from p (after_part SplitB p)) (7 + left_pass p) result }
 {
     let w = p.walk;
     let source = w.source;
@@ -165,7 +165,7 @@ fn split_a(p: Place) -> Reached
 fn split_b(pointer: u64, spare: u64, s: Split, p: Place) -> Reached
     requires sound_pass { SoundPass p }
     requires split_is { SplitIs p.scaled p.walk.source s }
-    ensures { Reaches (partsFrom p pointer spare) (10 + leftPass p) result }
+    ensures { Reaches (parts_from p pointer spare) (10 + left_pass p) result }
 {
     let z = p.scaled;
     let rows = s.odd as i64 + 1;
@@ -180,7 +180,7 @@ fn split_b(pointer: u64, spare: u64, s: Split, p: Place) -> Reached
 fn split_row(p: Place) -> Reached
     requires sound_pass { SoundPass p }
     requires meets { Meets Choice.SplitB p }
-    ensures { Reaches (passFrom p (afterPart Top p)) (10 + leftPass p) result }
+    ensures { Reaches (pass_from p (after_part Top p)) (10 + left_pass p) result }
 {
     let z = p.scaled;
     let w = p.walk;
@@ -204,7 +204,7 @@ fn from_top(lines: i64, p: Place) -> Reached
     requires sound_pass { SoundPass p }
     requires within { Within 44 lines }
     requires remain_value { lt_z (pos 0) (lines -ℤ p.walk.source.remain) ≡ true }
-    ensures { Reaches (topThen p lines) (13 + leftPass p) result }
+    ensures { Reaches (top_then p lines) (13 + left_pass p) result }
 {
     let z = p.scaled;
     let w = p.walk;
@@ -232,7 +232,7 @@ fn from_top(lines: i64, p: Place) -> Reached
 fn top(p: Place) -> Reached
     requires sound_pass { SoundPass p }
     requires meets { Meets Choice.Top p }
-    ensures { Reaches (passFrom p (afterPart Start p)) (13 + leftPass p) result }
+    ensures { Reaches (pass_from p (after_part Start p)) (13 + left_pass p) result }
 {
     let z = p.scaled;
     from_top(plus(p.rows, z.bilerp), p)
@@ -242,7 +242,7 @@ fn top(p: Place) -> Reached
 fn whole(p: Place) -> Reached
     requires sound_pass { SoundPass p }
     requires meets { Meets Choice.Whole p }
-    ensures { Reaches (passFrom p (afterPart Start p)) (13 + leftPass p) result }
+    ensures { Reaches (pass_from p (after_part Start p)) (13 + left_pass p) result }
 {
     let part = whole_part(p);
     if part_bad(part.rows, 0, part.width) {
@@ -314,7 +314,7 @@ fn chosen(k: Piece, p: Place) -> Choice
 // What comes after a part: the one call of each, so that the compiler inlines them.
 pub fn after_part(k: Piece, p: Place) -> Reached
     requires { SoundPass p }
-    ensures { Reaches (passFrom p (afterPart k p)) (afterPiece k + leftPass p) result }
+    ensures { Reaches (pass_from p (after_part k p)) (after_piece k + left_pass p) result }
 {
     match chosen(k, p) {
         Choice::Whole => whole(p),

@@ -2,9 +2,9 @@
 ghost use Rattle.std.specs.Prelude.{◌≡◌, pos};
 ghost use Rattle.measures.specs.Range.{Within};
 ghost use Rattle.plan.specs.Sound.{SoundScaled};
-ghost use Rattle.plan.specs.Load.{sourceAddress};
-ghost use Rattle.plan.specs.Scaled.{advance as advanceOf};
-ghost use Rattle.loads.specs.Coming.{sumOut, movedOut};
+ghost use Rattle.plan.specs.Load.{source_address};
+ghost use Rattle.plan.specs.Scaled.{advance as advance_of};
+ghost use Rattle.loads.specs.Coming.{sum_out, moved_out};
 
 use crate::rows::{difference, less, plus, times};
 use crate::types::{Moved, Sum};
@@ -13,7 +13,7 @@ use plan::{Scaled, Source};
 // `source_address`: an address and an offset of either sign.
 pub fn source_address(address: u64, offset: i64) -> Sum
     requires { Within 62 offset }
-    ensures { sumOut result ≡ sourceAddress address offset }
+    ensures { sum_out result ≡ source_address address offset }
 {
     if offset < 0 {
         let back = (0 - offset) as u64;
@@ -36,7 +36,7 @@ pub fn source_address(address: u64, offset: i64) -> Sum
 pub fn advance(z: Scaled, source: Source, rows: i64) -> Moved
     requires sound_scaled { SoundScaled z }
     requires within { (Within 44 source.remain) × Within 44 rows }
-    ensures { movedOut result ≡ advanceOf z source rows }
+    ensures { moved_out result ≡ advance_of z source rows }
 {
     let remain = difference(source.remain, rows);
     if 0 < remain {
@@ -58,7 +58,7 @@ pub fn advance(z: Scaled, source: Source, rows: i64) -> Moved
 pub fn forward(z: Scaled, source: Source) -> Moved
     requires sound_scaled { SoundScaled z }
     requires within { Within 44 source.remain }
-    ensures { movedOut result ≡ advanceOf z source (pos z.image_rows) }
+    ensures { moved_out result ≡ advance_of z source (pos z.image_rows) }
 {
     let remain = less(source.remain, z.image_rows);
     if 0 < remain {

@@ -4,7 +4,7 @@ use Rattle.std.specs.Prelude.{◌≡◌, ℕ, ◌+◌, ◌≤◌, ◌-◌, ◌^�
 use Rattle.std.specs.Int.{w64}
 use Rattle.std.proofs.Common.{SFits, to_z, of_z}
 use Rattle.std.proofs.lemmas.Int.{to_z-of_z}
-use Rattle.signed.specs.Diff.{up, ge-dn, zdiff, zarith}
+use Rattle.signed.specs.Diff.{up, ge_dn, zdiff, zarith}
 
 -- z lies in 0..2^k − 1, and in −2^k..2^k − 1
 pub record Below (k : ℕ) (z : ℤ) : Type 0 where
@@ -17,11 +17,11 @@ pub record Within (k : ℕ) (z : ℤ) : Type 0 where
 
 -- a number that is not negative is what `up` takes of it
 pub counted : {z : ℤ} → pos 0 ≤ℤ z → pos (up z) ≡ z
-counted {z} l = let d = ge-dn z 0 l in omega zarith
+counted {z} l = let d = ge_dn z 0 l in omega zarith
 
-pub counted-sum : {z : ℤ} (n : ℕ) → pos 0 ≤ℤ z → z +ℤ pos n ≡ pos (up z + n)
-counted-sum {z} n l = let d = ge-dn z 0 l in simp zdiff (omega zarith)
+pub counted_sum : {z : ℤ} (n : ℕ) → pos 0 ≤ℤ z → z +ℤ pos n ≡ pos (up z + n)
+counted_sum {z} n l = let d = ge_dn z 0 l in simp zdiff (omega zarith)
 
 -- and what its bits read as
-pub below-read : {k : ℕ} {z : ℤ} → 2 ^ k ≤ 2 ^ 63 → Below k z → to_z w64 (of_z w64 z) ≡ z
-below-read {k} {z} p b = let f : SFits w64 z = omega zarith in to_z-of_z w64 z f
+pub below_read : {k : ℕ} {z : ℤ} → 2 ^ k ≤ 2 ^ 63 → Below k z → to_z w64 (of_z w64 z) ≡ z
+below_read {k} {z} p b = let f : SFits w64 z = omega zarith in to_z-of_z w64 z f

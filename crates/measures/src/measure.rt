@@ -1,7 +1,7 @@
 // The conversions between the measures, and between a measure and whole texels, rows and lines: no other file multiplies, divides or shifts from one to another.
 // Widths, heights and image positions are never negative: a number below 0 counts as 0.
 ghost use Rattle.std.specs.Prelude.{◌≡◌, ◌≤◌, ◌<◌, ◌^◌, ◌/◌, pos};
-ghost use Rattle.measures.specs.Measure.{quarters, thirtySeconds, texels, wholeTexels, wholeRows, edge, linesAt, ofPosition, ofLines, whole, inQuarters, inThirtySeconds, extent, widthInImage, widthSampled, widthShown, texelsWide, wordsWide, rowsHigh, rowPart};
+ghost use Rattle.measures.specs.Measure.{quarters, thirty_seconds, texels, whole_texels, whole_rows, edge, lines_at, of_position, of_lines, whole, in_quarters, in_thirty_seconds, extent, width_in_image, width_sampled, width_shown, texels_wide, words_wide, rows_high, row_part};
 ghost use Rattle.measures.specs.Range.{Below, Within};
 
 use crate::types::{Quarters, Scale, ThirtySeconds};
@@ -14,7 +14,7 @@ pub fn quarters(q: Quarters) -> u64
 }
 
 pub fn thirty_seconds(t: ThirtySeconds) -> u64
-    ensures { result ≡ thirtySeconds t }
+    ensures { result ≡ thirty_seconds t }
 {
     positive(t.0)
 }
@@ -22,7 +22,7 @@ pub fn thirty_seconds(t: ThirtySeconds) -> u64
 // A number of quarters, as a width.
 pub fn of_quarters(n: u64) -> Quarters
     requires { n < 2 ^ 63 }
-    ensures { result ≡ inQuarters (pos n) }
+    ensures { result ≡ in_quarters (pos n) }
 {
     Quarters(n as i64)
 }
@@ -30,7 +30,7 @@ pub fn of_quarters(n: u64) -> Quarters
 // A number of thirty-seconds, as an image position.
 pub fn of_thirty_seconds(n: u64) -> ThirtySeconds
     requires { n < 2 ^ 63 }
-    ensures { result ≡ inThirtySeconds (pos n) }
+    ensures { result ≡ in_thirty_seconds (pos n) }
 {
     ThirtySeconds(n as i64)
 }
@@ -59,7 +59,7 @@ pub fn strip_lines(tmem_h: u16) -> u64
 // Cells, texels or lines as a width or a height.
 pub fn of_texels(n: i64) -> Quarters
     requires { Within 60 n }
-    ensures { result ≡ texelsWide n }
+    ensures { result ≡ texels_wide n }
 {
     Quarters(n * 4)
 }
@@ -67,7 +67,7 @@ pub fn of_texels(n: i64) -> Quarters
 // 64-bit words of 16-bit texels as a width.
 pub fn of_words(n: i64) -> Quarters
     requires { Within 58 n }
-    ensures { result ≡ wordsWide n }
+    ensures { result ≡ words_wide n }
 {
     Quarters(n * 16)
 }
@@ -75,14 +75,14 @@ pub fn of_words(n: i64) -> Quarters
 // A scissor edge, which is in whole pixels.
 pub fn edge(z: i32) -> Quarters
     requires { Below 10 z }
-    ensures { result ≡ inQuarters (pos (edge z)) }
+    ensures { result ≡ in_quarters (pos (edge z)) }
 {
     of_texels(z as i64)
 }
 
 // Whole texels of an image position, whole rows of an image height.
 pub fn whole_texels(t: ThirtySeconds) -> u64
-    ensures { result ≡ wholeTexels (thirtySeconds t) }
+    ensures { result ≡ whole_texels (thirty_seconds t) }
 {
     thirty_seconds(t) / 32
 }
@@ -90,14 +90,14 @@ pub fn whole_texels(t: ThirtySeconds) -> u64
 // Rows or columns of the image as an image position.
 pub fn of_rows(n: i64) -> ThirtySeconds
     requires { Within 57 n }
-    ensures { result ≡ rowsHigh n }
+    ensures { result ≡ rows_high n }
 {
     ThirtySeconds(n * 32)
 }
 
 // Whole rows of an origin, which may be negative.
 pub fn whole_rows(t: ThirtySeconds) -> i64
-    ensures { result ≡ wholeRows t.0 }
+    ensures { result ≡ whole_rows t.0 }
 {
     masks::rows5(t.0)
 }
@@ -105,7 +105,7 @@ pub fn whole_rows(t: ThirtySeconds) -> i64
 // A width in the image's measure.
 pub fn in_image(q: Quarters) -> ThirtySeconds
     requires { quarters q ≤ 2 ^ 20 }
-    ensures { result ≡ widthInImage q }
+    ensures { result ≡ width_in_image q }
 {
     let n = quarters(q) * 8;
     ThirtySeconds(n as i64)
@@ -114,7 +114,7 @@ pub fn in_image(q: Quarters) -> ThirtySeconds
 // What a frame width at a scale takes of the image.
 pub fn sampled_by(q: Quarters, scale: Scale) -> ThirtySeconds
     requires { (quarters q ≤ 2 ^ 20) × (scale.0 ≤ 65535) }
-    ensures { result ≡ widthSampled q scale }
+    ensures { result ≡ width_sampled q scale }
 {
     let n = (quarters(q) * scale.0) >> 7;
     ThirtySeconds(n as i64)
@@ -123,7 +123,7 @@ pub fn sampled_by(q: Quarters, scale: Scale) -> ThirtySeconds
 // The frame width that an image width gives at a scale.
 pub fn shown_at(q: Quarters, scale: Scale) -> Quarters
     requires { (quarters q ≤ 2 ^ 20) × (1 ≤ scale.0) }
-    ensures { result ≡ widthShown q scale }
+    ensures { result ≡ width_shown q scale }
 {
     let n = (quarters(q) << 10) / scale.0;
     of_quarters(n)
@@ -134,7 +134,7 @@ pub fn shown_at(q: Quarters, scale: Scale) -> Quarters
 // The frame lines that image rows give at a scale, in 1,024ths.
 pub fn lines_at(rows: u64, scale: Scale) -> u64
     requires { (rows ≤ 512) × (1 ≤ scale.0) }
-    ensures { result ≡ linesAt rows scale.0 }
+    ensures { result ≡ lines_at rows scale.0 }
 {
     (rows << 20) / scale.0
 }
@@ -142,7 +142,7 @@ pub fn lines_at(rows: u64, scale: Scale) -> u64
 // A distance in the image, in 1,024ths of a row.
 pub fn of_position(t: ThirtySeconds) -> i64
     requires { Within 40 t.0 }
-    ensures { result ≡ ofPosition t.0 }
+    ensures { result ≡ of_position t.0 }
 {
     t.0 << 5
 }
@@ -150,7 +150,7 @@ pub fn of_position(t: ThirtySeconds) -> i64
 // Whole lines in 1,024ths.
 pub fn of_lines(n: i64) -> i64
     requires { Within 40 n }
-    ensures { result ≡ ofLines n }
+    ensures { result ≡ of_lines n }
 {
     n << 10
 }
@@ -171,7 +171,7 @@ pub fn signed_whole(n: i64) -> i64
 
 // What a number of 1,024ths of a row has over whole rows.
 pub fn row_part(n: u64) -> ThirtySeconds
-    ensures { result ≡ rowPart (pos n) }
+    ensures { result ≡ row_part (pos n) }
 {
     of_thirty_seconds(masks::low5(n >> 5))
 }

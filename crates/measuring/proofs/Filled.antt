@@ -11,18 +11,18 @@ use Rattle.small.specs.Small.{AllSmall}
 use Rattle.ruler.specs.declared.types.Ruler.{Ruler}
 use Rattle.ruler.specs.declared.types.Place.{Place}
 use Rattle.ruler.specs.declared.types.Begun.{Begun}
-use Rattle.ruler.specs.Drifts.{driftsFrom, place_of, begunIn, SoundPlace}
-use Rattle.measuring.specs.Host.{begunWords, driftWords, Next}
+use Rattle.ruler.specs.Drifts.{drifts_from, place_of, begun_in, SoundPlace}
+use Rattle.measuring.specs.Host.{begun_words, drift_words, Next}
 
 -- ---- words
 
-words_more : (h : ℕ) (bs : List demand.Begun) (b : demand.Begun) → driftWords h (bs ++ b ∷ []) ≡ driftWords h bs ++ begunWords h b
-unfolding driftWords
+words_more : (h : ℕ) (bs : List demand.Begun) (b : demand.Begun) → drift_words h (bs ++ b ∷ []) ≡ drift_words h bs ++ begun_words h b
+unfolding drift_words
 words_more h [] b = refl
-words_more h (a ∷ bs) b = ap (λ (ws : List ℕ). begunWords h a ++ ws) (words_more h bs b)
+words_more h (a ∷ bs) b = ap (λ (ws : List ℕ). begun_words h a ++ ws) (words_more h bs b)
 
-words_long : (h : ℕ) (bs : List demand.Begun) → length (driftWords h bs) ≡ 5 * length bs
-unfolding driftWords
+words_long : (h : ℕ) (bs : List demand.Begun) → length (drift_words h bs) ≡ 5 * length bs
+unfolding drift_words
 words_long h [] = refl
 words_long h (b ∷ bs) = omega (arith, words_long h bs)
 
@@ -38,42 +38,42 @@ paste_more xs ws buf a w l =
 -- `given` is in the buffer, the rest is to come
 pub record Going (r : Ruler) (es : List Entry) (buf out : List ℕ) (p : Planner) (place : Place) (n : ℕ) : Type 0 where
   pub given : List demand.Begun
-  pub whole : driftsFrom r (place_of r) es ≡ given ++ driftsFrom r place (coming p).entries
+  pub whole : drifts_from r (place_of r) es ≡ given ++ drifts_from r place (coming p).entries
   pub count : n ≡ length given
   pub fits : 5 * length given ≤ length buf
   pub same : length out ≡ length buf
-  pub buffer : out ≡ driftWords r.h given ++ drop (5 * length given) buf
+  pub buffer : out ≡ drift_words r.h given ++ drop (5 * length given) buf
   pub sound : Sound p
   pub small : AllSmall (coming p).entries
   pub at : SoundPlace r place
 
 pub going_start : (r : Ruler) (p : Planner) (buf : List ℕ) (place : Place) → Sound p → AllSmall (coming p).entries → place ≡ place_of r → SoundPlace r place → Going r (coming p).entries buf buf p place 0
-unfolding driftWords
+unfolding drift_words
 going_start r p buf place s a e h =
-    record { given = []; whole = ap (λ (x : Place). driftsFrom r x (coming p).entries) (sym e); count = refl; fits = omega arith; same = refl; buffer = refl; sound = s; small = a; at = h }
+    record { given = []; whole = ap (λ (x : Place). drifts_from r x (coming p).entries) (sym e); count = refl; fits = omega arith; same = refl; buffer = refl; sound = s; small = a; at = h }
 
 module _ {r : Ruler} {es : List Entry} {buf out : List ℕ} {p : Planner} {place : Place} {n : ℕ} (g : Going r es buf out p place n) where
-  pub going_more : (b : Begun) (s : Place) (q : Planner) (out' : List ℕ) → Next r place p b s q → 5 ≤ length out - n * 5 → out' ≡ paste out (n * 5) (begunWords r.h (begunIn b)) 5 → Going r es buf out' q s (n + 1)
+  pub going_more : (b : Begun) (s : Place) (q : Planner) (out' : List ℕ) → Next r place p b s q → 5 ≤ length out - n * 5 → out' ≡ paste out (n * 5) (begun_words r.h (begun_in b)) 5 → Going r es buf out' q s (n + 1)
   going_more b s q out' h room e =
       let bs = g.given in
-      let ws = begunWords r.h (begunIn b) in
+      let ws = begun_words r.h (begun_in b) in
       let c = g.count in
       let m = g.same in
-      let len : length (bs ++ begunIn b ∷ []) ≡ length bs + 1 = length-append bs (begunIn b ∷ []) in
+      let len : length (bs ++ begun_in b ∷ []) ≡ length bs + 1 = length-append bs (begun_in b ∷ []) in
       let at : 5 * length bs ≡ n * 5 = omega arith in
-      let d : n * 5 + 5 ≡ 5 * length (bs ++ begunIn b ∷ []) = omega arith in
+      let d : n * 5 + 5 ≡ 5 * length (bs ++ begun_in b ∷ []) = omega arith in
       record {
-        given = bs ++ begunIn b ∷ [];
-        whole = g.whole ∙ ap (λ (l : List demand.Begun). bs ++ l) h.is ∙ sym (append_assoc bs (begunIn b ∷ []) (driftsFrom r s (coming q).entries));
+        given = bs ++ begun_in b ∷ [];
+        whole = g.whole ∙ ap (λ (l : List demand.Begun). bs ++ l) h.is ∙ sym (append_assoc bs (begun_in b ∷ []) (drifts_from r s (coming q).entries));
         count = omega arith;
         fits = omega (arith, g.fits);
         same = ap length e ∙ length-paste out (n * 5) ws 5 (omega arith) (omega arith) ∙ m;
         buffer =
             e
-            ∙ ap (λ (x : List ℕ). paste x (n * 5) ws 5) (g.buffer ∙ ap (λ (k : ℕ). driftWords r.h bs ++ drop k buf) at)
-            ∙ paste_more (driftWords r.h bs) ws buf (n * 5) refl (words_long r.h bs ∙ at)
-            ∙ ap (λ (x : List ℕ). x ++ drop (n * 5 + 5) buf) (sym (words_more r.h bs (begunIn b)))
-            ∙ ap (λ (k : ℕ). driftWords r.h (bs ++ begunIn b ∷ []) ++ drop k buf) d;
+            ∙ ap (λ (x : List ℕ). paste x (n * 5) ws 5) (g.buffer ∙ ap (λ (k : ℕ). drift_words r.h bs ++ drop k buf) at)
+            ∙ paste_more (drift_words r.h bs) ws buf (n * 5) refl (words_long r.h bs ∙ at)
+            ∙ ap (λ (x : List ℕ). x ++ drop (n * 5 + 5) buf) (sym (words_more r.h bs (begun_in b)))
+            ∙ ap (λ (k : ℕ). drift_words r.h (bs ++ begun_in b ∷ []) ++ drop k buf) d;
         sound = h.rest.sound;
         small = h.rest.small;
         at = h.next;

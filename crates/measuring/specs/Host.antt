@@ -8,25 +8,25 @@ use Rattle.measures.specs.Range.{Within}
 use Rattle.plan.specs.declared.types.Entry.{Entry}
 use Rattle.plan.specs.Request.{Request}
 use Rattle.plan.specs.Demand as demand
-use Rattle.plan.specs.Demand.{driftOf, behindOf, ahead_of, apt}
+use Rattle.plan.specs.Demand.{drift_of, behind_of, ahead_of, apt}
 use Rattle.planner.specs.declared.types.Planner.{Planner}
 use Rattle.planner.specs.Coming.{Sound, coming}
-use Rattle.request.specs.Host.{hostRequest}
+use Rattle.request.specs.Host.{host_request}
 use Rattle.small.specs.Small.{AllSmall}
 use Rattle.ruler.specs.declared.types.Ruler.{Ruler}
 use Rattle.ruler.specs.declared.types.Place.{Place}
 use Rattle.ruler.specs.declared.types.Begun.{Begun}
-use Rattle.ruler.specs.Drifts.{driftsOf, setUp, driftsFrom, place_of, begunIn, SoundPlace}
+use Rattle.ruler.specs.Drifts.{drifts_of, set_up, drifts_from, place_of, begun_in, SoundPlace}
 use Rattle.measuring.specs.declared.Moved.{Moved}
 use Rattle.measuring.specs.declared.Moved.TheVariants as moved
 
 -- a rectangle's words: its first line, its strip, its distance, and the limits behind and ahead
-abbrev pub begunWords : (h : ℕ) → demand.Begun → List ℕ
-begunWords h b = b.line ∷ word b.strip ∷ word b.distance ∷ word (behindOf h) ∷ word (ahead_of h b.strip) ∷ []
+abbrev pub begun_words : (h : ℕ) → demand.Begun → List ℕ
+begun_words h b = b.line ∷ word b.strip ∷ word b.distance ∷ word (behind_of h) ∷ word (ahead_of h b.strip) ∷ []
 
-unfoldable pub driftWords : (h : ℕ) → List demand.Begun → List ℕ
-driftWords h [] = []
-driftWords h (b ∷ bs) = begunWords h b ++ driftWords h bs
+unfoldable pub drift_words : (h : ℕ) → List demand.Begun → List ℕ
+drift_words h [] = []
+drift_words h (b ∷ bs) = begun_words h b ++ drift_words h bs
 
 -- the answer, and the words of drift and told as the call leaves them
 pub record Drifted : Type 0 where
@@ -38,19 +38,19 @@ abbrev pub drifted : ℕ → List ℕ → List ℕ → Drifted
 drifted answer drift told = record { answer = answer; drift = drift; told = told }
 
 -- the rectangles that stand in the buffer
-abbrev pub shownOf : Request → (drift : List ℕ) → List demand.Begun
-shownOf q drift = take (length drift / 5) (driftsOf q)
+abbrev pub shown_of : Request → (drift : List ℕ) → List demand.Begun
+shown_of q drift = take (length drift / 5) (drifts_of q)
 
 -- as many rectangles as there is room for; whether demand 3 is promised of them
-unfoldable pub measuredOf : Request → (drift : List ℕ) → Drifted
-measuredOf q drift =
-    drifted 0 (driftWords (driftOf q).h (shownOf q drift) ++ drop (5 * length (shownOf q drift)) drift)
-    (length (shownOf q drift) ∷ cond (apt q && setUp q) 1 0 ∷ [])
+unfoldable pub measured_of : Request → (drift : List ℕ) → Drifted
+measured_of q drift =
+    drifted 0 (drift_words (drift_of q).h (shown_of q drift) ++ drop (5 * length (shown_of q drift)) drift)
+    (length (shown_of q drift) ∷ cond (apt q && set_up q) 1 0 ∷ [])
 
 -- that, or 1 and nothing changed where request or told has another number of words
-unfoldable pub hostDrift : (object request drift told : List ℕ) → Drifted
-hostDrift object request drift told =
-    cond (eqb (length request) 7 && eqb (length told) 2) (measuredOf (hostRequest object request) drift) (drifted 1 drift told)
+unfoldable pub host_drift : (object request drift told : List ℕ) → Drifted
+host_drift object request drift told =
+    cond (eqb (length request) 7 && eqb (length told) 2) (measured_of (host_request object request) drift) (drifted 1 drift told)
 
 -- ---- what the functions promise
 
@@ -61,7 +61,7 @@ pub record Rest (p q : Planner) : Type 0 where
   pub fewer : length (coming q).entries < length (coming p).entries
 
 pub record Next (r : Ruler) (place : Place) (p : Planner) (b : Begun) (s : Place) (q : Planner) : Type 0 where
-  pub is : driftsFrom r place (coming p).entries ≡ begunIn b ∷ driftsFrom r s (coming q).entries
+  pub is : drifts_from r place (coming p).entries ≡ begun_in b ∷ drifts_from r s (coming q).entries
   pub next : SoundPlace r s
   pub strip : Within 46 b.strip
   pub distance : SFits w64 b.distance
@@ -69,12 +69,12 @@ pub record Next (r : Ruler) (place : Place) (p : Planner) (b : Begun) (s : Place
 
 abbrev pub MovedIs : Ruler → Place → Planner → Moved → Type 0
 MovedIs r place p (moved.Measured b s q) = Next r place p b s q
-MovedIs r place p (moved.Passed q) = (driftsFrom r place (coming p).entries ≡ driftsFrom r place (coming q).entries) × Rest p q
-MovedIs r place p moved.Over = driftsFrom r place (coming p).entries ≡ []
+MovedIs r place p (moved.Passed q) = (drifts_from r place (coming p).entries ≡ drifts_from r place (coming q).entries) × Rest p q
+MovedIs r place p moved.Over = drifts_from r place (coming p).entries ≡ []
 
 abbrev pub fitting : Ruler → List Entry → (drift : List ℕ) → List demand.Begun
-fitting r es drift = take (length drift / 5) (driftsFrom r (place_of r) es)
+fitting r es drift = take (length drift / 5) (drifts_from r (place_of r) es)
 
 pub record FilledIs (r : Ruler) (es : List Entry) (drift out : List ℕ) (n : ℕ) : Type 0 where
   pub count : n ≡ length (fitting r es drift)
-  pub buffer : out ≡ driftWords r.h (fitting r es drift) ++ drop (5 * length (fitting r es drift)) drift
+  pub buffer : out ≡ drift_words r.h (fitting r es drift) ++ drop (5 * length (fitting r es drift)) drift

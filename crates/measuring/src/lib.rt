@@ -12,10 +12,10 @@ ghost use Rattle.std.specs.Int.{w64};
 ghost use Rattle.std.proofs.Common.{SFits};
 ghost use Rattle.measures.specs.Range.{Within};
 ghost use Rattle.planner.specs.Coming.{Sound, coming};
-ghost use Rattle.request.specs.Host.{withBytes};
+ghost use Rattle.request.specs.Host.{with_bytes};
 ghost use Rattle.small.specs.Small.{AllSmall};
-ghost use Rattle.ruler.specs.Drifts.{SoundRuler, SoundPlace, begunIn};
-ghost use Rattle.measuring.specs.Host.{begunWords, MovedIs, FilledIs, drifted, measuredOf, hostDrift};
+ghost use Rattle.ruler.specs.Drifts.{SoundRuler, SoundPlace, begun_in};
+ghost use Rattle.measuring.specs.Host.{begun_words, MovedIs, FilledIs, drifted, measured_of, host_drift};
 
 use planner::{Given, Planner};
 use request::Request;
@@ -43,7 +43,7 @@ pub(crate) struct Told {
 
 fn words_of(h: u64, b: Begun) -> [u64; 5]
     requires { (h ≤ 65535) × ((Within 46 b.strip) × SFits w64 b.distance) }
-    ensures { result ≡ begunWords h (begunIn b) }
+    ensures { result ≡ begun_words h (begun_in b) }
 {
     let behind = word_of(ruler::behind(h));
     let ahead = word_of(ruler::ahead(h, b.strip));
@@ -104,7 +104,7 @@ fn flag(b: bool) -> u64
 }
 
 fn measured(object: &[u8], q: Request, drift: &mut [u64]) -> Told
-    ensures { drifted 0 drift.new (result.rectangles ∷ result.apt ∷ []) ≡ measuredOf (withBytes object.now q) drift.old }
+    ensures { drifted 0 drift.new (result.rectangles ∷ result.apt ∷ []) ≡ measured_of (with_bytes object.now q) drift.old }
 {
     match ruler::ruler_of(object, q.opcode, q.scissor, q.mode, q.address) {
         Found::Is(r) => {
@@ -133,7 +133,7 @@ fn tell(told: &mut [u64], t: Told)
 
 // Each rectangle of a scaled plan: its strip, and how far it lies from its exact position.
 pub fn visor_drift(object: &[u8], request: &[u64], drift: &mut [u64], told: &mut [u64]) -> u64
-    ensures { drifted result drift.new told.new ≡ hostDrift object.now request.now drift.old told.old }
+    ensures { drifted result drift.new told.new ≡ host_drift object.now request.now drift.old told.old }
 {
     if request.len() != REQUEST {
         return 1;

@@ -10,29 +10,29 @@ use Rattle.object.specs.declared.decode.Decoded.TheVariants as decoded
 
 -- D 3.1, D 3.2 and D 3.3, in the tables' order
 pub data Field : Type 0 where
-  image-x : Field
-  image-w : Field
-  frame-x : Field
-  frame-w : Field
-  image-y : Field
-  image-h : Field
-  frame-y : Field
-  frame-h : Field
-  image-ptr : Field
-  image-load : Field
-  image-fmt : Field
-  image-siz : Field
-  image-pal : Field
-  image-flip : Field
-  tmem-w : Field
-  tmem-h : Field
-  tmem-load-sh : Field
-  tmem-load-th : Field
-  tmem-size-w : Field
-  tmem-size : Field
-  scale-w : Field
-  scale-h : Field
-  image-y-orig : Field
+  image_x : Field
+  image_w : Field
+  frame_x : Field
+  frame_w : Field
+  image_y : Field
+  image_h : Field
+  frame_y : Field
+  frame_h : Field
+  image_ptr : Field
+  image_load : Field
+  image_fmt : Field
+  image_siz : Field
+  image_pal : Field
+  image_flip : Field
+  tmem_w : Field
+  tmem_h : Field
+  tmem_load_sh : Field
+  tmem_load_th : Field
+  tmem_size_w : Field
+  tmem_size : Field
+  scale_w : Field
+  scale_h : Field
+  image_y_orig : Field
 
 -- how a field's bytes are read
 pub data Sign : Type 0 where
@@ -51,29 +51,29 @@ place offset width sign = record { offset = offset; width = width; sign = sign }
 
 -- the field table, for pointers of p bytes: what stands after the pointer moves with p
 unfoldable pub layout : ℕ → Field → Place
-layout p image-x = place 0 2 unsigned
-layout p image-w = place 2 2 unsigned
-layout p frame-x = place 4 2 signed16
-layout p frame-w = place 6 2 unsigned
-layout p image-y = place 8 2 unsigned
-layout p image-h = place 10 2 unsigned
-layout p frame-y = place 12 2 signed16
-layout p frame-h = place 14 2 unsigned
-layout p image-ptr = place 16 p unsigned
-layout p image-load = place (16 + p) 2 unsigned
-layout p image-fmt = place (18 + p) 1 unsigned
-layout p image-siz = place (19 + p) 1 unsigned
-layout p image-pal = place (20 + p) 2 unsigned
-layout p image-flip = place (22 + p) 2 unsigned
-layout p tmem-w = place (24 + p) 2 unsigned
-layout p tmem-h = place (26 + p) 2 unsigned
-layout p tmem-load-sh = place (28 + p) 2 unsigned
-layout p tmem-load-th = place (30 + p) 2 unsigned
-layout p tmem-size-w = place (32 + p) 2 unsigned
-layout p tmem-size = place (34 + p) 2 unsigned
-layout p scale-w = place (24 + p) 2 unsigned
-layout p scale-h = place (26 + p) 2 unsigned
-layout p image-y-orig = place (28 + p) 4 signed32
+layout p image_x = place 0 2 unsigned
+layout p image_w = place 2 2 unsigned
+layout p frame_x = place 4 2 signed16
+layout p frame_w = place 6 2 unsigned
+layout p image_y = place 8 2 unsigned
+layout p image_h = place 10 2 unsigned
+layout p frame_y = place 12 2 signed16
+layout p frame_h = place 14 2 unsigned
+layout p image_ptr = place 16 p unsigned
+layout p image_load = place (16 + p) 2 unsigned
+layout p image_fmt = place (18 + p) 1 unsigned
+layout p image_siz = place (19 + p) 1 unsigned
+layout p image_pal = place (20 + p) 2 unsigned
+layout p image_flip = place (22 + p) 2 unsigned
+layout p tmem_w = place (24 + p) 2 unsigned
+layout p tmem_h = place (26 + p) 2 unsigned
+layout p tmem_load_sh = place (28 + p) 2 unsigned
+layout p tmem_load_th = place (30 + p) 2 unsigned
+layout p tmem_size_w = place (32 + p) 2 unsigned
+layout p tmem_size = place (34 + p) 2 unsigned
+layout p scale_w = place (24 + p) 2 unsigned
+layout p scale_h = place (26 + p) 2 unsigned
+layout p image_y_orig = place (28 + p) 4 signed32
 
 -- D verdict 2 "under 40 bytes for copy, 36 for scaled", for pointers of 4 bytes: the end of the last field
 abbrev pub size_of : ℕ → (copy : Bool) → ℕ
@@ -116,35 +116,35 @@ unfoldable pub decode : ℕ → (copy : Bool) → List ℕ → ObjBg
 unfolding value_of
 decode p copy bs =
     record {
-      image_x = record { 0 = value_of p bs image-x };
-      image_w = record { 0 = value_of p bs image-w };
-      frame_x = record { 0 = value_of p bs frame-x };
-      frame_w = record { 0 = value_of p bs frame-w };
-      image_y = record { 0 = value_of p bs image-y };
-      image_h = record { 0 = value_of p bs image-h };
-      frame_y = record { 0 = value_of p bs frame-y };
-      frame_h = record { 0 = value_of p bs frame-h };
-      image_ptr = number_of p bs image-ptr;
-      image_load = number_of p bs image-load;
-      image_fmt = number_of p bs image-fmt;
-      image_siz = number_of p bs image-siz;
-      image_pal = number_of p bs image-pal;
-      image_flip = number_of p bs image-flip;
-      tmem_w = cond copy (number_of p bs tmem-w) 0;
-      tmem_h = cond copy (number_of p bs tmem-h) 0;
-      tmem_load_sh = cond copy (number_of p bs tmem-load-sh) 0;
-      tmem_load_th = cond copy (number_of p bs tmem-load-th) 0;
-      tmem_size_w = cond copy (number_of p bs tmem-size-w) 0;
-      tmem_size = cond copy (number_of p bs tmem-size) 0;
-      scale_w = record { 0 = cond copy 0 (max 1 (number_of p bs scale-w)) };
-      scale_h = record { 0 = cond copy 0 (max 1 (number_of p bs scale-h)) };
-      image_y_orig = record { 0 = cond copy (pos 0) (value_of p bs image-y-orig) };
+      image_x = record { 0 = value_of p bs image_x };
+      image_w = record { 0 = value_of p bs image_w };
+      frame_x = record { 0 = value_of p bs frame_x };
+      frame_w = record { 0 = value_of p bs frame_w };
+      image_y = record { 0 = value_of p bs image_y };
+      image_h = record { 0 = value_of p bs image_h };
+      frame_y = record { 0 = value_of p bs frame_y };
+      frame_h = record { 0 = value_of p bs frame_h };
+      image_ptr = number_of p bs image_ptr;
+      image_load = number_of p bs image_load;
+      image_fmt = number_of p bs image_fmt;
+      image_siz = number_of p bs image_siz;
+      image_pal = number_of p bs image_pal;
+      image_flip = number_of p bs image_flip;
+      tmem_w = cond copy (number_of p bs tmem_w) 0;
+      tmem_h = cond copy (number_of p bs tmem_h) 0;
+      tmem_load_sh = cond copy (number_of p bs tmem_load_sh) 0;
+      tmem_load_th = cond copy (number_of p bs tmem_load_th) 0;
+      tmem_size_w = cond copy (number_of p bs tmem_size_w) 0;
+      tmem_size = cond copy (number_of p bs tmem_size) 0;
+      scale_w = record { 0 = cond copy 0 (max 1 (number_of p bs scale_w)) };
+      scale_h = record { 0 = cond copy 0 (max 1 (number_of p bs scale_h)) };
+      image_y_orig = record { 0 = cond copy (pos 0) (value_of p bs image_y_orig) };
     }
 
 -- the object, or that it is short
-abbrev pub decodedBy : Bool → ObjBg → Decoded
-decodedBy true bg = decoded.Short
-decodedBy false bg = decoded.Object bg
+abbrev pub decoded_by : Bool → ObjBg → Decoded
+decoded_by true bg = decoded.Short
+decoded_by false bg = decoded.Object bg
 
-unfoldable pub decodedOf : ℕ → (copy : Bool) → List ℕ → Decoded
-decodedOf p copy bs = decodedBy (ltb (length bs) (size_of p copy)) (decode p copy bs)
+unfoldable pub decoded_of : ℕ → (copy : Bool) → List ℕ → Decoded
+decoded_of p copy bs = decoded_by (ltb (length bs) (size_of p copy)) (decode p copy bs)

@@ -2,8 +2,8 @@
 ghost use Rattle.std.specs.Prelude.{◌≡◌, cond, ◌+◌, ◌≤◌, ◌<◌, ◌^◌, max, pos, length};
 ghost use Rattle.std.specs.Int.{w16, w32};
 ghost use Rattle.std.proofs.Common.{to_z};
-ghost use Rattle.measures.specs.Measure.{inQuarters, inThirtySeconds, inScale};
-ghost use Rattle.object.specs.Layout.{read, size_of, decode, decodedOf};
+ghost use Rattle.measures.specs.Measure.{in_quarters, in_thirty_seconds, in_scale};
+ghost use Rattle.object.specs.Layout.{read, size_of, decode, decoded_of};
 
 use crate::reader::field_from;
 use crate::types::ObjBg;
@@ -32,7 +32,7 @@ fn half(s: &[u8], at: usize) -> u16
 
 fn width(s: &[u8], at: usize) -> Quarters
     requires { at + 2 ≤ length s.now }
-    ensures { result ≡ inQuarters (pos (read s.now at 2)) }
+    ensures { result ≡ in_quarters (pos (read s.now at 2)) }
 {
     let n = field_from(s, at, 2);
     Quarters(n as i64)
@@ -40,7 +40,7 @@ fn width(s: &[u8], at: usize) -> Quarters
 
 fn image_place(s: &[u8], at: usize) -> ThirtySeconds
     requires { at + 2 ≤ length s.now }
-    ensures { result ≡ inThirtySeconds (pos (read s.now at 2)) }
+    ensures { result ≡ in_thirty_seconds (pos (read s.now at 2)) }
 {
     let n = field_from(s, at, 2);
     ThirtySeconds(n as i64)
@@ -72,7 +72,7 @@ fn signed32(n: u64) -> i64
 
 fn frame_place(s: &[u8], at: usize) -> Quarters
     requires { at + 2 ≤ length s.now }
-    ensures { result ≡ inQuarters (to_z w16 (read s.now at 2)) }
+    ensures { result ≡ in_quarters (to_z w16 (read s.now at 2)) }
 {
     Quarters(signed16(field_from(s, at, 2)))
 }
@@ -89,7 +89,7 @@ fn copy_half(copy: bool, s: &[u8], at: usize) -> u16
 // A stored scale of 0 is 1.
 fn scale(copy: bool, s: &[u8], at: usize) -> Scale
     requires { cond copy 0 (at + 2) ≤ length s.now }
-    ensures { result ≡ inScale (cond copy 0 (max 1 (read s.now at 2))) }
+    ensures { result ≡ in_scale (cond copy 0 (max 1 (read s.now at 2))) }
 {
     if copy {
         Scale(0)
@@ -100,7 +100,7 @@ fn scale(copy: bool, s: &[u8], at: usize) -> Scale
 
 fn origin(copy: bool, s: &[u8], at: usize) -> ThirtySeconds
     requires { cond copy 0 (at + 4) ≤ length s.now }
-    ensures { result ≡ inThirtySeconds (cond copy (pos 0) (to_z w32 (read s.now at 4))) }
+    ensures { result ≡ in_thirty_seconds (cond copy (pos 0) (to_z w32 (read s.now at 4))) }
 {
     if copy {
         ThirtySeconds(0)
@@ -151,7 +151,7 @@ fn size(pointer: usize, copy: bool) -> usize
 
 pub fn decode_obj_bg(object: &[u8], pointer: usize, copy: bool) -> Decoded
     requires { pointer ≤ 8 }
-    ensures { result ≡ decodedOf pointer copy object.now }
+    ensures { result ≡ decoded_of pointer copy object.now }
 {
     if object.len() < size(pointer, copy) {
         return Decoded::Short;

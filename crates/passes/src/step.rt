@@ -1,10 +1,10 @@
 // One step of a scaled plan: the entry that is due, and where the plan stands after it.
 ghost use Rattle.std.specs.Prelude.{◌≡◌};
-ghost use Rattle.plan.specs.Out.{planOut};
+ghost use Rattle.plan.specs.Out.{plan_out};
 ghost use Rattle.plan.specs.Sound.{SoundScaled, SoundFirst};
-ghost use Rattle.plan.specs.Scaled.{scaledPlan};
-ghost use Rattle.loads.specs.Coming.{dueEntry, dueWalk, dueStage, stageOf, turnOut, after_turn, comingScaled};
-ghost use Rattle.loads.specs.Sound.{ClipIn, soundAt, left_at, leftTurn, Reaches, Begins, Gave, loadedOut};
+ghost use Rattle.plan.specs.Scaled.{scaled_plan};
+ghost use Rattle.loads.specs.Coming.{due_entry, due_walk, due_stage, stage_of, turn_out, after_turn, coming_scaled};
+ghost use Rattle.loads.specs.Sound.{ClipIn, SoundAt, left_at, left_turn, Reaches, Begins, Gave, loaded_out};
 
 use loads::{
     Begun, Due, Loaded, Part, Piece, Place, Reached, ScaledNext, Stage, Sum, Turn, after_part,
@@ -16,8 +16,8 @@ use walks::{drawn, image, load, next_pass, rect, tile0, tile7};
 
 // What is given before the next pass.
 fn due_entry(due: Due, p: Place) -> Entry
-    requires { soundAt (dueStage due) p }
-    ensures { result ≡ dueEntry due p }
+    requires { SoundAt (due_stage due) p }
+    ensures { result ≡ due_entry due p }
 {
     match due {
         Due::Size => Entry::Size {
@@ -33,8 +33,8 @@ fn due_entry(due: Due, p: Place) -> Entry
 
 // The walk before the next pass: after a rectangle, the one that its pass leaves.
 fn due_walk(due: Due, p: Place) -> Walk
-    requires { soundAt (dueStage due) p }
-    ensures { result ≡ dueWalk due p }
+    requires { SoundAt (due_stage due) p }
+    ensures { result ≡ due_walk due p }
 {
     match due {
         Due::Size => p.walk,
@@ -44,8 +44,8 @@ fn due_walk(due: Due, p: Place) -> Walk
 
 // The entry of a turn; only a load may be refused.
 fn turn_entry(turn: Turn, p: Place) -> Loaded
-    requires { soundAt (stageOf turn) p }
-    ensures { loadedOut result ≡ turnOut turn p }
+    requires { SoundAt (stage_of turn) p }
+    ensures { loaded_out result ≡ turn_out turn p }
 {
     match turn {
         Turn::Load => load(p.scaled, p.part),
@@ -56,8 +56,8 @@ fn turn_entry(turn: Turn, p: Place) -> Loaded
 
 // The pass after a turn's entry: the one that is under way, or the next.
 fn begun(turn: Turn, p: Place) -> Begun
-    requires { soundAt (stageOf turn) p }
-    ensures { Begins (after_turn turn p) (leftTurn turn p) result }
+    requires { SoundAt (stage_of turn) p }
+    ensures { Begins (after_turn turn p) (left_turn turn p) result }
 {
     match turn {
         Turn::Load => {
@@ -71,8 +71,8 @@ fn begun(turn: Turn, p: Place) -> Begun
 
 // What comes after a turn's entry: the one call of `after_part`, so that the compiler inlines it.
 fn turned(turn: Turn, p: Place) -> Reached
-    requires { soundAt (stageOf turn) p }
-    ensures { Reaches (after_turn turn p) (leftTurn turn p) result }
+    requires { SoundAt (stage_of turn) p }
+    ensures { Reaches (after_turn turn p) (left_turn turn p) result }
 {
     match begun(turn, p) {
         Begun::At(k, q) => after_part(k, q),
@@ -82,8 +82,8 @@ fn turned(turn: Turn, p: Place) -> Reached
 
 // The entry of a turn, and what comes after it unless its load is refused.
 fn turn_step(turn: Turn, p: Place) -> ScaledNext
-    requires { soundAt (stageOf turn) p }
-    ensures { Gave (comingScaled (stageOf turn) p) (left_at (stageOf turn) p) result }
+    requires { SoundAt (stage_of turn) p }
+    ensures { Gave (coming_scaled (stage_of turn) p) (left_at (stage_of turn) p) result }
 {
     match turn_entry(turn, p) {
         Loaded::Entry(entry) => ScaledNext::Entry(entry, turned(turn, p)),
@@ -93,8 +93,8 @@ fn turn_step(turn: Turn, p: Place) -> ScaledNext
 
 // The load of a pass where no row wraps, and what comes after it unless it is refused.
 fn whole_step(p: Place) -> ScaledNext
-    requires { soundAt Stage.WholeLoad p }
-    ensures { Gave (comingScaled Stage.WholeLoad p) (left_at Stage.WholeLoad p) result }
+    requires { SoundAt Stage.WholeLoad p }
+    ensures { Gave (coming_scaled Stage.WholeLoad p) (left_at Stage.WholeLoad p) result }
 {
     match load(p.scaled, whole_part(p)) {
         Loaded::Entry(entry) => ScaledNext::Entry(entry, moved_on(p)),
@@ -104,8 +104,8 @@ fn whole_step(p: Place) -> ScaledNext
 
 // What comes next of a scaled plan. The stages of a turn meet in one call of `turn_step`, so that the compiler inlines it.
 pub fn scaled_next(stage: Stage, p: Place) -> ScaledNext
-    requires { soundAt stage p }
-    ensures { Gave (comingScaled stage p) (left_at stage p) result }
+    requires { SoundAt stage p }
+    ensures { Gave (coming_scaled stage p) (left_at stage p) result }
 {
     let turn = match stage {
         Stage::First => {
@@ -145,7 +145,7 @@ pub fn scaled_next(stage: Stage, p: Place) -> ScaledNext
 pub fn scaled_start(z: Scaled, c: Clip, f: First) -> Reached
     requires sound_scaled { SoundScaled z }
     requires sound_first { (SoundFirst z f) × ClipIn c }
-    ensures { Reaches (planOut (scaledPlan z c f)) 16384 result }
+    ensures { Reaches (plan_out (scaled_plan z c f)) 16384 result }
 {
     let offset = z.stride * f.image_row + z.x_offset;
     let Sum::At(pointer) = source_address(z.address, offset as i64) else {

@@ -4,22 +4,22 @@
 use Rattle.std.specs.Prelude.{◌≡◌, Bool, true, false, cond, ◌&&◌, List, [], ◌∷◌, ℕ, zero, suc, ◌+◌, ◌-◌, ◌*◌, ◌/◌, ◌%◌, ◌<◌, eqb, ℤ, pos, neg_ℤ, ◌+ℤ◌, ◌-ℤ◌, ◌*ℤ◌, ◌≤ℤ◌}
 use Rattle.std.specs.Int.Signed.{lt_z, le_z}
 use Rattle.signed.specs.Diff.{up}
-use Rattle.signed.specs.Floor.{floorDiv, modulo}
-use Rattle.measures.specs.Measure.{quarters, thirtySeconds, texels, wholeRows, sampledBy, whole}
+use Rattle.signed.specs.Floor.{floor_div, modulo}
+use Rattle.measures.specs.Measure.{quarters, thirty_seconds, texels, whole_rows, sampled_by, whole}
 use Rattle.object.specs.Layout.{decode}
 use Rattle.plan.specs.Request.{Request}
 use Rattle.plan.specs.declared.types.Entry.{Entry}
 use Rattle.plan.specs.declared.types.Entry.TheVariants.{Image, Tile, Size, Load, Rect}
-use Rattle.plan.specs.Scaled.{clipOf, start_of, scaledOf, first_of}
+use Rattle.plan.specs.Scaled.{clip_of, start_of, scaled_of, first_of}
 use Rattle.plan.specs.Whole.{plan_of}
 
 -- D "`carry`, `slice`, `source_rows`, R and each strip's k and `remain` are defined from the inputs"
 pub record Drift : Type 0 where
   pub h : ℕ
-  pub image-h : ℕ
-  pub source-rows : ℕ
-  pub image-rows : ℕ
-  pub frame-rows : ℕ
+  pub image_h : ℕ
+  pub source_rows : ℕ
+  pub image_rows : ℕ
+  pub frame_rows : ℕ
   pub first_rows : ℤ
   pub carry : ℕ
   pub slice : ℤ
@@ -29,30 +29,30 @@ pub record Drift : Type 0 where
   pub origin : ℤ
 
 -- `start` is D's bracket without carry: "image_y, plus clipped top in units × h / 128 rounded down"; `first_rows` the rows of strip `slice` above the start
-unfoldable pub driftOf : Request → Drift
-driftOf q =
+unfoldable pub drift_of : Request → Drift
+drift_of q =
     let bg = decode 4 false q.bytes in
-    let c = clipOf bg q.scissor in
+    let c = clip_of bg q.scissor in
     let i = start_of bg c in
-    let z = scaledOf bg q.mode q.address c i in
+    let z = scaled_of bg q.mode q.address c i in
     let f = first_of z i in
     record {
       h = z.scale_h.0;
-      image-h = quarters bg.image_h;
-      source-rows = z.source_rows;
-      image-rows = z.image_rows;
-      frame-rows = z.frame_rows;
+      image_h = quarters bg.image_h;
+      source_rows = z.source_rows;
+      image_rows = z.image_rows;
+      frame_rows = z.frame_rows;
       first_rows = whole f.image_hidden;
       carry = i.carry;
       slice = f.slice;
       count = f.count;
       lines = texels (quarters c.height);
-      start = thirtySeconds bg.image_y + sampledBy (quarters c.top) z.scale_h.0;
+      start = thirty_seconds bg.image_y + sampled_by (quarters c.top) z.scale_h.0;
       origin = bg.image_y_orig.0;
     }
 
 -- D "Strip k is numbered from `slice` upward, passes without a line counted": the numbers of the strips that draw
-unfoldable pub strips : ℕ → (frame-rows : ℕ) → (k frame-remain count : ℤ) → List ℤ
+unfoldable pub strips : ℕ → (frame_rows : ℕ) → (k frame_remain count : ℤ) → List ℤ
 strips zero f k left count = []
 strips (suc n) f k left count =
     let draw = up (whole count) in
@@ -64,8 +64,8 @@ strips (suc n) f k left count =
       | false ↦ []
     ]
 
-abbrev pub stripsOf : Drift → List ℤ
-stripsOf d = strips (65 * d.lines) d.frame-rows d.slice (pos d.lines) d.count
+abbrev pub strips_of : Drift → List ℤ
+strips_of d = strips (65 * d.lines) d.frame_rows d.slice (pos d.lines) d.count
 
 -- D "1,024 × image row + 32 × ult + h × j"
 abbrev pub sampled : Drift → (row : ℕ) → (ult : ℤ) → (j : ℕ) → ℤ
@@ -77,23 +77,23 @@ exact d earlier j = pos (32 * (d.start + 32 * d.carry) + d.h * (j + earlier))
 
 -- the whole images that strip k lies below the origin's: the m of D 11.7
 abbrev pub wholes : Drift → (k : ℤ) → ℤ
-wholes d k = floorDiv (pos d.image-rows *ℤ k +ℤ wholeRows d.origin +ℤ pos d.carry +ℤ cond (le_z k d.slice) d.first_rows (pos 0)) d.source-rows
+wholes d k = floor_div (pos d.image_rows *ℤ k +ℤ whole_rows d.origin +ℤ pos d.carry +ℤ cond (le_z k d.slice) d.first_rows (pos 0)) d.source_rows
 
 -- D "d = sampled − exact + 256 × image_h × m"
 abbrev pub ahead : Drift → (k : ℤ) → (row : ℕ) → (ult : ℤ) → (earlier j : ℕ) → ℤ
-ahead d k row ult earlier j = sampled d row ult j -ℤ exact d earlier j +ℤ pos (256 * d.image-h) *ℤ wholes d k
+ahead d k row ult earlier j = sampled d row ult j -ℤ exact d earlier j +ℤ pos (256 * d.image_h) *ℤ wholes d k
 
 -- D "d .. is at least −(h + 30)": the limit behind
-abbrev pub behindOf : (h : ℕ) → ℤ
-behindOf h = neg_ℤ (pos (h + 30))
+abbrev pub behind_of : (h : ℕ) → ℤ
+behind_of h = neg_ℤ (pos (h + 30))
 
 -- D "1,024 × d at most h × (1,024 + k)", rounded down to a whole d: the limit ahead
 abbrev pub ahead_of : (h : ℕ) → (k : ℤ) → ℤ
-ahead_of h k = floorDiv (pos h *ℤ (pos 1024 +ℤ k)) 1024
+ahead_of h k = floor_div (pos h *ℤ (pos 1024 +ℤ k)) 1024
 
 -- D "d .. is at least −(h + 30), and 1,024 × d at most h × (1,024 + k)"
 pub record Near (h : ℕ) (k d : ℤ) : Type 0 where
-  pub behind : behindOf h ≤ℤ d
+  pub behind : behind_of h ≤ℤ d
   pub before : (pos 1024 *ℤ d) ≤ℤ (pos h *ℤ (pos 1024 +ℤ k))
 
 -- D "A rectangle has floor((lry − uly) / 4) lines": each line of each rectangle is near, with the strips' numbers and the lines of earlier rectangles
@@ -108,24 +108,24 @@ AllNear d n (k ∷ ks) (Rect i ulx uly lrx lry uls ult dsdx dtdy row ∷ es) =
     ((j : ℕ) → j < (lry - uly) / 4 → Near d.h k (ahead d k row ult n j)) × AllNear d (n + (lry - uly) / 4) ks es
 
 -- the lines of a list's rectangles
-unfoldable pub linesIn : List Entry → ℕ
-linesIn [] = 0
-linesIn (Image fmt siz width address ∷ es) = linesIn es
-linesIn (Tile i fmt siz line tmem palette cms cmt masks maskt ∷ es) = linesIn es
-linesIn (Size i uls ult lrs lrt ∷ es) = linesIn es
-linesIn (Load i uls ult lrs lrt words rows stride start len ∷ es) = linesIn es
-linesIn (Rect i ulx uly lrx lry uls ult dsdx dtdy row ∷ es) = (lry - uly) / 4 + linesIn es
+unfoldable pub lines_in : List Entry → ℕ
+lines_in [] = 0
+lines_in (Image fmt siz width address ∷ es) = lines_in es
+lines_in (Tile i fmt siz line tmem palette cms cmt masks maskt ∷ es) = lines_in es
+lines_in (Size i uls ult lrs lrt ∷ es) = lines_in es
+lines_in (Load i uls ult lrs lrt words rows stride start len ∷ es) = lines_in es
+lines_in (Rect i ulx uly lrx lry uls ult dsdx dtdy row ∷ es) = (lry - uly) / 4 + lines_in es
 
 -- D "Whole rows: image_h a multiple of 4, image_y_orig of 32. The start is at or below the origin when the bracket's first two terms add to at least image_y_orig"
 pub record Apt (q : Request) : Type 0 where
   pub scaled : q.opcode ≡ 9
-  pub rows : (driftOf q).image-h % 4 ≡ 0
-  pub origin : modulo (driftOf q).origin 32 ≡ 0
-  pub below : (driftOf q).origin ≤ℤ pos (driftOf q).start
+  pub rows : (drift_of q).image_h % 4 ≡ 0
+  pub origin : modulo (drift_of q).origin 32 ≡ 0
+  pub below : (drift_of q).origin ≤ℤ pos (drift_of q).start
 
 -- demand 3, over the list of steps' entries
 abbrev pub Demand3 : Type 0
-Demand3 = (q : Request) → Apt q → AllNear (driftOf q) 0 (stripsOf (driftOf q)) (plan_of q).entries
+Demand3 = (q : Request) → Apt q → AllNear (drift_of q) 0 (strips_of (drift_of q)) (plan_of q).entries
 
 -- where a rectangle begins: its first line, its strip, and the distance there (the same for all lines of a rectangle)
 pub record Begun : Type 0 where
@@ -146,8 +146,8 @@ aheads d n (k ∷ ks) (Rect i ulx uly lrx lry uls ult dsdx dtdy row ∷ es) =
 
 -- demand 3's conditions and limits as tests
 unfoldable pub apt : Request → Bool
-apt q = let d = driftOf q in eqb q.opcode 9 && (eqb (d.image-h % 4) 0 && (eqb (modulo d.origin 32) 0 && le_z d.origin (pos d.start)))
+apt q = let d = drift_of q in eqb q.opcode 9 && (eqb (d.image_h % 4) 0 && (eqb (modulo d.origin 32) 0 && le_z d.origin (pos d.start)))
 
-unfoldable pub allNear : ℕ → List Begun → Bool
-allNear h [] = true
-allNear h (b ∷ bs) = le_z (behindOf h) b.distance && (le_z (pos 1024 *ℤ b.distance) (pos h *ℤ (pos 1024 +ℤ b.strip)) && allNear h bs)
+unfoldable pub all_near : ℕ → List Begun → Bool
+all_near h [] = true
+all_near h (b ∷ bs) = le_z (behind_of h) b.distance && (le_z (pos 1024 *ℤ b.distance) (pos h *ℤ (pos 1024 +ℤ b.strip)) && all_near h bs)

@@ -1,7 +1,7 @@
 -- Records at the edges of the rules. Written by tools/make_cases.py from the oracle's output.
 -- Assumes nothing.
 use Rattle.std.specs.Prelude.{List, [], ◌∷◌, T}
-use Rattle.plan.specs.Check.{Given, given, ends, allAgree}
+use Rattle.plan.specs.Check.{Given, given, ends, all_agree}
 use Rattle.plan.specs.Unit.{bank}
 
 unfoldable pub edges : List Given
@@ -1464,6 +1464,6 @@ edges =
     ∷ [])
     ∷ []
 
-pub edges-agree : T (allAgree bank edges)
-unfolding edges allAgree
-edges-agree = tt
+pub edges_agree : T (all_agree bank edges)
+unfolding edges all_agree
+edges_agree = tt

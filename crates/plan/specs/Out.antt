@@ -39,6 +39,6 @@ pub record Plan : Type 0 where
   pub left : List Entry
   pub verdict : Verdict
 
-abbrev pub planOut : Out (Unit {0}) → Plan
-planOut (go es u) = record { entries = es; left = []; verdict = Finished }
-planOut (stop es l v) = record { entries = es; left = l; verdict = v }
+abbrev pub plan_out : Out (Unit {0}) → Plan
+plan_out (go es u) = record { entries = es; left = []; verdict = Finished }
+plan_out (stop es l v) = record { entries = es; left = l; verdict = v }

@@ -5,9 +5,9 @@ use Rattle.std.proofs.Common.{sym, ap, ◌∙◌, arith, lit<, ne_eqb, leb-true,
 use Rattle.std.specs.Int.Signed.{le_z, quot_z}
 use Rattle.std.proofs.lemmas.Bool.{lt-leb}
 use Rattle.signed.specs.Diff.{up, neg_is, zdiff, zparts, zarith}
-use Rattle.signed.specs.Floor.{floorDiv, quot_below, quot_above}
-use Rattle.signed.specs.Mask.{quot-exact}
-use Rattle.signed.specs.Cast.{clearLow}
+use Rattle.signed.specs.Floor.{floor_div, quot_below, quot_above}
+use Rattle.signed.specs.Mask.{quot_exact}
+use Rattle.signed.specs.Cast.{clear_low}
 
 -- `z <= 0` is `up z == 0`: width, height, image_rows, draw
 pub none_left : (z : ℤ) → le_z z (pos 0) ≡ eqb (up z) 0
@@ -34,15 +34,15 @@ larger (pos n) u = chosen (leb n u) n u refl
 larger (negsuc n) u = ap pos (omega arith)
 
 -- the distance from the origin: below 0, `scale_h - 1` is taken away before the division
-pub distance-below : (z : ℤ) (h : ℕ) → 1 ≤ h → z <ℤ pos 0 → quot_z (z -ℤ (pos h -ℤ pos 1)) (pos h) ≡ floorDiv z h
-distance-below z h p n = quot_below z (pos h) (omega zarith) n
+pub distance_below : (z : ℤ) (h : ℕ) → 1 ≤ h → z <ℤ pos 0 → quot_z (z -ℤ (pos h -ℤ pos 1)) (pos h) ≡ floor_div z h
+distance_below z h p n = quot_below z (pos h) (omega zarith) n
 
-pub distance-above : (z : ℤ) (h : ℕ) → 1 ≤ h → pos 0 ≤ℤ z → quot_z z (pos h) ≡ floorDiv z h
-distance-above z h p n = quot_above z (pos h) (omega zarith) n
+pub distance_above : (z : ℤ) (h : ℕ) → 1 ≤ h → pos 0 ≤ℤ z → quot_z z (pos h) ≡ floor_div z h
+distance_above z h p n = quot_above z (pos h) (omega zarith) n
 
 -- (origin & !0x1f) / 32
-pub origin-rows : (z : ℤ) → quot_z (clearLow z 32) (pos 32) ≡ floorDiv z 32
-origin-rows z = quot-exact (floorDiv z 32) 32 (lit< tt)
+pub origin_rows : (z : ℤ) → quot_z (clear_low z 32) (pos 32) ≡ floor_div z 32
+origin_rows z = quot_exact (floor_div z 32) 32 (lit< tt)
 
 -- capacity / line - bilerp, cut at 0
 pub rows_left : (a b : ℕ) → up (pos a -ℤ pos b) ≡ a - b
@@ -52,5 +52,5 @@ rows_left a b = simp zdiff (simp zparts (omega zarith))
 pub wrapped : (n : ℕ) (remain rows : ℤ) → pos n -ℤ (rows -ℤ remain) ≡ remain -ℤ rows +ℤ pos n
 wrapped n remain rows = simp zdiff (omega zarith)
 
-pub wrapped-by : (remain rows : ℤ) → rows -ℤ remain ≡ neg_ℤ (remain -ℤ rows)
-wrapped-by remain rows = simp zdiff (omega zarith)
+pub wrapped_by : (remain rows : ℤ) → rows -ℤ remain ≡ neg_ℤ (remain -ℤ rows)
+wrapped_by remain rows = simp zdiff (omega zarith)

@@ -1,7 +1,7 @@
 -- The worked cases L, A, B, C, D, E, G, H, I, J, in this order, as a unit: from the 61 bytes to the whole plan, the bank, and the figures of docs/SPECIFICATION.md, section 13, which the quotes call D. Written by tools/make_cases.py from the oracle's output.
 -- Assumes nothing.
 use Rattle.std.specs.Prelude.{List, [], ◌∷◌, ℕ, T}
-use Rattle.plan.specs.Check.{Given, saying, ends, allAgree}
+use Rattle.plan.specs.Check.{Given, saying, ends, all_agree}
 use Rattle.plan.specs.Check.Figure.{answers, entries, rects, words, lines, begins, drifts}
 
 -- the bank that every run starts from
@@ -626,6 +626,6 @@ unit =
     ∷ [])
     ∷ []
 
-pub unit-agree : T (allAgree bank unit)
-unfolding unit allAgree
-unit-agree = tt
+pub unit_agree : T (all_agree bank unit)
+unfolding unit all_agree
+unit_agree = tt

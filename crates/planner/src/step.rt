@@ -2,7 +2,7 @@
 ghost use Rattle.std.specs.Prelude.{◌≡◌};
 ghost use Rattle.plan.specs.Sound.{EntryIn};
 ghost use Rattle.words.specs.Counts.{Countable};
-ghost use Rattle.planner.specs.Coming.{Sound, StepGives, StepIs, giveOf, stopOf, refuseOf};
+ghost use Rattle.planner.specs.Coming.{Sound, StepGives, StepIs, give_of, stop_of, refuse_of};
 
 use crate::types::{Course, Given, Planner, Step, Stepped};
 use copy::CopyNext;
@@ -14,7 +14,7 @@ use words::Counts;
 
 fn give(course: Course, n: Counts, entry: Entry) -> Step
     requires { (Countable n) × EntryIn entry }
-    ensures { result ≡ giveOf course n entry }
+    ensures { result ≡ give_of course n entry }
 {
     let counts = words::counted(n, entry);
     let planner = Planner { course, counts };
@@ -23,7 +23,7 @@ fn give(course: Course, n: Counts, entry: Entry) -> Step
 }
 
 fn stop(n: Counts, verdict: Verdict) -> Step
-    ensures { result ≡ stopOf n verdict }
+    ensures { result ≡ stop_of n verdict }
 {
     let planner = Planner {
         course: Course::Over(verdict),
@@ -35,7 +35,7 @@ fn stop(n: Counts, verdict: Verdict) -> Step
 
 // Verdict 9 at a load, which has set its tile's size.
 fn refuse(n: Counts, size: Entry) -> Step
-    ensures { result ≡ refuseOf n size }
+    ensures { result ≡ refuse_of n size }
 {
     let verdict = Verdict::Address;
     let planner = Planner {

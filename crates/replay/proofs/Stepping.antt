@@ -16,55 +16,55 @@ use Rattle.plan.specs.declared.types.End.{End}
 use Rattle.plan.specs.declared.types.Answer.{Answer}
 use Rattle.plan.specs.declared.types.Answer.TheVariants as answer
 use Rattle.plan.specs.Out.{Plan}
-use Rattle.plan.specs.Run.{entryWords, planWords, bankStep, bankAfter, end_of, cut_at}
+use Rattle.plan.specs.Run.{entry_words, plan_words, bank_step, bank_after, end_of, cut_at}
 use Rattle.plan.specs.Sound.{Narrow}
-use Rattle.plan.specs.Steps.{Coming, comingOf, answers, bankTo, next_of, answer_of, bankNext}
-use Rattle.giving.specs.Host.{bankNumbers, bankFrom, wordsAfter, words-after, runWords}
-use Rattle.digest.specs.Fnv.{basis, digestFrom, digestOf, wordInto}
+use Rattle.plan.specs.Steps.{Coming, coming_of, answers, bank_to, next_of, answer_of, bank_next}
+use Rattle.giving.specs.Host.{bank_numbers, bank_from, words_after, words_after_lem, run_words}
+use Rattle.digest.specs.Fnv.{basis, digest_from, digest_of, word_into}
 use Rattle.planner.specs.declared.types.Planner.{Planner}
 use Rattle.planner.specs.declared.types.Step.{Step}
 use Rattle.planner.specs.declared.types.Stepped.{Stepped}
 use Rattle.planner.specs.declared.types.Given.{Given}
 use Rattle.planner.specs.declared.types.Given.TheVariants as given
-use Rattle.planner.specs.Coming.{Sound, StepGives, StepIs, coming, answer_in, givenIn}
+use Rattle.planner.specs.Coming.{Sound, StepGives, StepIs, coming, answer_in, GivenIn}
 use Rattle.replay.specs.declared.outcome.Outcome.{Outcome}
 use Rattle.replay.specs.declared.record.Mixed.{Mixed}
 use Rattle.replay.specs.declared.record.Mixed.TheVariants as mixed
 use Rattle.replay.specs.declared.steps.Digests.{Digests}
-use Rattle.replay.specs.Outcome.{outcomeOf}
+use Rattle.replay.specs.Outcome.{outcome_of}
 use Rattle.banks.specs.Narrows.{AllNarrow}
 use Rattle.replay.specs.Passed.{Passed}
-use Rattle.replay.specs.Steps.{answerWords, answersWords, steppedFrom, steppedOf, endsIn, mixedOf, replayedOf}
-use Rattle.banks.proofs.Banks.{BankFits, bank-back, after-fits}
+use Rattle.replay.specs.Steps.{answer_words, answers_words, stepped_from, stepped_of, ends_in, mixed_of, replayed_of}
+use Rattle.banks.proofs.Banks.{BankFits, bank_back, after_fits}
 use Rattle.replay.proofs.Outcomes.{standing}
 
 -- words after words
-digest-append : (xs ys : List ℕ) (h : ℕ) → digestFrom h (xs ++ ys) ≡ digestFrom (digestFrom h xs) ys
-unfolding digestFrom
-digest-append [] ys h = refl
-digest-append (x ∷ xs) ys h = digest-append xs ys (wordInto 8 x h)
+digest_append : (xs ys : List ℕ) (h : ℕ) → digest_from h (xs ++ ys) ≡ digest_from (digest_from h xs) ys
+unfolding digest_from
+digest_append [] ys h = refl
+digest_append (x ∷ xs) ys h = digest_append xs ys (word_into 8 x h)
 
 -- ---- to the end and beyond: with m ends to come after the entries
 
-abbrev allAnswers : ℕ → Coming → List Answer
-allAnswers m k = answers (length k.entries + m) k.entries k.end
+abbrev all_answers : ℕ → Coming → List Answer
+all_answers m k = answers (length k.entries + m) k.entries k.end
 
-abbrev lastBank : ℕ → Coming → Bank → Bank
-lastBank m k b = bankTo (length k.entries + m) k.entries k.left b
+abbrev last_bank : ℕ → Coming → Bank → Bank
+last_bank m k b = bank_to (length k.entries + m) k.entries k.left b
 
 -- once an end is answered no entry is to come
 pub record Under (k : Coming) (b : Bank) (h : ℕ) (p : Planner) (c : Bank) (g ends : ℕ) : Type 0 where
   pub sound : Sound p
   pub few : ends ≤ 4
   pub none : 0 < ends → (coming p).entries ≡ []
-  pub answered : digestFrom g (answersWords (allAnswers (4 - ends) (coming p))) ≡ digestFrom h (answersWords (allAnswers 4 k))
-  pub banked : lastBank (4 - ends) (coming p) c ≡ lastBank 4 k b
+  pub answered : digest_from g (answers_words (all_answers (4 - ends) (coming p))) ≡ digest_from h (answers_words (all_answers 4 k))
+  pub banked : last_bank (4 - ends) (coming p) c ≡ last_bank 4 k b
 
-pub under-start : (p : Planner) → Sound p → (b : Bank) (h : ℕ) → Under (coming p) b h p b h 0
-under-start p s b h = record { sound = s; few = omega arith; none = λ l. absurd (omega arith); answered = refl; banked = refl }
+pub under_start : (p : Planner) → Sound p → (b : Bank) (h : ℕ) → Under (coming p) b h p b h 0
+under_start p s b h = record { sound = s; few = omega arith; none = λ l. absurd (omega arith); answered = refl; banked = refl }
 
-pub one_end : (a : Answer) → endsIn a ≤ 1
-unfolding endsIn
+pub one_end : (a : Answer) → ends_in a ≤ 1
+unfolding ends_in
 one_end (answer.Entry e) = omega arith
 one_end (answer.End e) = omega arith
 
@@ -72,16 +72,16 @@ one_end (answer.End e) = omega arith
 record Next (es left : List Entry) (e : End) (b : Bank) (ends n : ℕ) : Type 0 where
   few : ends + n ≤ 4
   none : 0 < ends + n → (next_of es left e).entries ≡ []
-  answered : answersWords (answers (length es + (4 - ends)) es e) ≡ answerWords (answer_of es e) ++ answersWords (allAnswers (4 - (ends + n)) (next_of es left e))
-  banked : bankTo (length es + (4 - ends)) es left b ≡ lastBank (4 - (ends + n)) (next_of es left e) (bankNext es left b)
+  answered : answers_words (answers (length es + (4 - ends)) es e) ≡ answer_words (answer_of es e) ++ answers_words (all_answers (4 - (ends + n)) (next_of es left e))
+  banked : bank_to (length es + (4 - ends)) es left b ≡ last_bank (4 - (ends + n)) (next_of es left e) (bank_next es left b)
   less : length (next_of es left e).entries + (4 - (ends + n)) < length es + (4 - ends)
 
-next-is : (es left : List Entry) (e : End) (b : Bank) (ends n : ℕ) → ends < 4 → (0 < ends → es ≡ []) → n ≡ endsIn (answer_of es e) → Next es left e b ends n
-unfolding endsIn answers answersWords bankTo
-next-is [] left e b ends n h f i =
+next_is : (es left : List Entry) (e : End) (b : Bank) (ends n : ℕ) → ends < 4 → (0 < ends → es ≡ []) → n ≡ ends_in (answer_of es e) → Next es left e b ends n
+unfolding ends_in answers answers_words bank_to
+next_is [] left e b ends n h f i =
     let z : length {A = Entry} [] + (4 - ends) ≡ suc (length {A = Entry} [] + (4 - (ends + n))) = omega arith in
     record { few = omega arith; none = λ l. refl; answered = rw z; banked = rw z; less = omega arith }
-next-is (x ∷ es) left e b ends n h f i =
+next_is (x ∷ es) left e b ends n h f i =
     let o = first (x ∷ es) ends f (longer x es) in
     let z : length (x ∷ es) + (4 - ends) ≡ suc (length es + (4 - (ends + n))) = omega (arith, longer x es) in
     record { few = omega arith; none = λ l. absurd (omega arith); answered = rw z; banked = rw z; less = omega (arith, longer x es) }
@@ -93,11 +93,11 @@ next-is (x ∷ es) left e b ends n h f i =
     first l zero f k = refl
     first l (suc n) f k = absurd (omega (arith, ap length (f (omega arith))))
 
-module _ (k : Coming) (b : Bank) (h : ℕ) (p : Planner) (c : Bank) (g ends : ℕ) (u : Under k b h p c g ends) (more : ends < 4) (s : Stepped) (i : StepIs p c s) (n : ℕ) (is : n ≡ endsIn s.answer) where
+module _ (k : Coming) (b : Bank) (h : ℕ) (p : Planner) (c : Bank) (g ends : ℕ) (u : Under k b h p c g ends) (more : ends < 4) (s : Stepped) (i : StepIs p c s) (n : ℕ) (is : n ≡ ends_in s.answer) where
   next : Next (coming p).entries (coming p).left (coming p).end c ends n
-  next = next-is _ _ _ c ends n more u.none (is ∙ ap endsIn i.answer)
+  next = next_is _ _ _ c ends n more u.none (is ∙ ap ends_in i.answer)
 
-  pub under_more : (g' : ℕ) → g' ≡ digestFrom g (answerWords s.answer) → Under k b h s.planner s.bank g' (ends + n)
+  pub under_more : (g' : ℕ) → g' ≡ digest_from g (answer_words s.answer) → Under k b h s.planner s.bank g' (ends + n)
   under_more g' e =
       record {
         sound = i.sound;
@@ -105,78 +105,78 @@ module _ (k : Coming) (b : Bank) (h : ℕ) (p : Planner) (c : Bank) (g ends : �
         none = λ l. ap (λ (x : Coming). x.entries) i.rest ∙ next.none l;
         answered =
             rw (i.rest, e, i.answer)
-            (sym (digest-append (answerWords (answer_of (coming p).entries (coming p).end)) _ g) ∙ ap (digestFrom g) (sym next.answered) ∙ u.answered);
+            (sym (digest_append (answer_words (answer_of (coming p).entries (coming p).end)) _ g) ∙ ap (digest_from g) (sym next.answered) ∙ u.answered);
         banked = rw (i.rest, i.bank) (sym next.banked ∙ u.banked);
       }
 
-  pub under-less : length (coming s.planner).entries + (4 - (ends + n)) < length (coming p).entries + (4 - ends)
-  under-less = rw i.rest next.less
+  pub under_less : length (coming s.planner).entries + (4 - (ends + n)) < length (coming p).entries + (4 - ends)
+  under_less = rw i.rest next.less
 
 -- four ends are answered
 module _ (k : Coming) (b : Bank) (h : ℕ) (p : Planner) (c : Bank) (g ends : ℕ) (u : Under k b h p c g ends) (all : 4 ≤ ends) where
-  over : (es left : List Entry) (e : End) (m : ℕ) → es ≡ [] → m ≡ 0 → (answers (length es + m) es e ≡ []) × (bankTo (length es + m) es left c ≡ c)
-  unfolding answers bankTo
+  over : (es left : List Entry) (e : End) (m : ℕ) → es ≡ [] → m ≡ 0 → (answers (length es + m) es e ≡ []) × (bank_to (length es + m) es left c ≡ c)
+  unfolding answers bank_to
   over es left e m i z = (rw (i, z), rw (i, z))
 
-  pub under-over : (d : ℕ) → d ≡ digestOf (bankNumbers c) → record { answers = g; bank = d } ≡ steppedFrom h k b
-  unfolding steppedFrom answersWords digestFrom
-  under-over d e =
+  pub under_over : (d : ℕ) → d ≡ digest_of (bank_numbers c) → record { answers = g; bank = d } ≡ stepped_from h k b
+  unfolding stepped_from answers_words digest_from
+  under_over d e =
       let o = over (coming p).entries (coming p).left (coming p).end (4 - ends) (u.none (omega arith)) (omega arith) in
-      let a : g ≡ digestFrom h (answersWords (allAnswers 4 k)) = (rw o.0 at u.answered) in
-      let l : c ≡ lastBank 4 k b = sym o.1 ∙ u.banked in
-      λ j. record { answers = a j; bank = (e ∙ ap (λ (x : Bank). digestOf (bankNumbers x)) l) j }
+      let a : g ≡ digest_from h (answers_words (all_answers 4 k)) = (rw o.0 at u.answered) in
+      let l : c ≡ last_bank 4 k b = sym o.1 ∙ u.banked in
+      λ j. record { answers = a j; bank = (e ∙ ap (λ (x : Bank). digest_of (bank_numbers x)) l) j }
 
 -- ---- steps that are passed over
 
-narrow-more : (es : List Entry) (x : Entry) → AllNarrow es → Narrow x → AllNarrow (es ++ x ∷ [])
-narrow-more [] x h n = (n, tt)
-narrow-more (e ∷ es) x h n = (h.0, narrow-more es x h.1 n)
+narrow_more : (es : List Entry) (x : Entry) → AllNarrow es → Narrow x → AllNarrow (es ++ x ∷ [])
+narrow_more [] x h n = (n, tt)
+narrow_more (e ∷ es) x h n = (h.0, narrow_more es x h.1 n)
 
 -- the entry that is given is narrow
-given-narrow : (g : Given) (x : Entry) → answer_in g ≡ answer.Entry x → givenIn g → Narrow x
-given-narrow (given.Entry e) x i h = let k : e ≡ x = cc in subst Narrow k h.narrow
-given-narrow (given.Refused s y) x i h = let z : ◌≡◌ {A = ℕ} 0 1 = cc in absurd (omega arith)
-given-narrow (given.End y) x i h = let z : ◌≡◌ {A = ℕ} 0 1 = cc in absurd (omega arith)
+given_narrow : (g : Given) (x : Entry) → answer_in g ≡ answer.Entry x → GivenIn g → Narrow x
+given_narrow (given.Entry e) x i h = let k : e ≡ x = cc in subst Narrow k h.narrow
+given_narrow (given.Refused s y) x i h = let z : ◌≡◌ {A = ℕ} 0 1 = cc in absurd (omega arith)
+given_narrow (given.End y) x i h = let z : ◌≡◌ {A = ℕ} 0 1 = cc in absurd (omega arith)
 
 pub passed_start : (p : Planner) → Sound p → Passed 0 (coming p) p
 passed_start p s = record { rest = refl; narrow = tt; sound = s }
 
-pub passed-more : (i : ℕ) (k : Coming) (p : Planner) → Passed i k p → i < length k.entries → (s : Step) → StepGives p s → Passed (i + 1) k s.planner
-passed-more i k p h l s g =
+pub passed_more : (i : ℕ) (k : Coming) (p : Planner) → Passed i k p → i < length k.entries → (s : Step) → StepGives p s → Passed (i + 1) k s.planner
+passed_more i k p h l s g =
     let x = get_or k.entries i (entry.Image 0 0 0 0) in
     let there : (coming p).entries ≡ x ∷ drop (suc i) k.entries = ap (λ (c : Coming). c.entries) h.rest ∙ drop-cons k.entries i _ l in
     rw (add-one)
     (record {
       rest = g.rest ∙ rw there (λ j. record { entries = drop (suc i) k.entries; left = (h.rest j).left; end = (h.rest j).end });
-      narrow = rw (take-suc k.entries i (entry.Image 0 0 0 0) l) (narrow-more (take i k.entries) x h.narrow (given-narrow s.given x (g.answer ∙ ap (λ (es : List Entry). answer_of es (coming p).end) there) g.ranges));
+      narrow = rw (take-suc k.entries i (entry.Image 0 0 0 0) l) (narrow_more (take i k.entries) x h.narrow (given_narrow s.given x (g.answer ∙ ap (λ (es : List Entry). answer_of es (coming p).end) there) g.ranges));
       sound = g.sound;
     })
 
 -- ---- a run, then steps
 
-join-answers : (m : ℕ) (es : List Entry) (e : End) (j : ℕ) → m ≤ length es → answersWords (answers (length es + j) es e) ≡ planWords (take m es) ++ answersWords (answers (length (drop m es) + j) (drop m es) e)
-unfolding planWords answers answersWords answerWords
-join-answers zero es e j h = refl
-join-answers (suc m) [] e j h = absurd (omega arith)
-join-answers (suc m) (x ∷ es) e j h =
+join_answers : (m : ℕ) (es : List Entry) (e : End) (j : ℕ) → m ≤ length es → answers_words (answers (length es + j) es e) ≡ plan_words (take m es) ++ answers_words (answers (length (drop m es) + j) (drop m es) e)
+unfolding plan_words answers answers_words answer_words
+join_answers zero es e j h = refl
+join_answers (suc m) [] e j h = absurd (omega arith)
+join_answers (suc m) (x ∷ es) e j h =
     let z : length (x ∷ es) + j ≡ suc (length es + j) = omega arith in
-    rw z (ap (λ (ws : List ℕ). entryWords x ++ ws) (join-answers m es e j (omega arith)) ∙ sym (append_assoc (entryWords x) (planWords (take m es)) _))
+    rw z (ap (λ (ws : List ℕ). entry_words x ++ ws) (join_answers m es e j (omega arith)) ∙ sym (append_assoc (entry_words x) (plan_words (take m es)) _))
 
-join-bank : (m : ℕ) (es left : List Entry) (b : Bank) (j : ℕ) → m ≤ length es → bankTo (length es + j) es left b ≡ bankTo (length (drop m es) + j) (drop m es) left (bankAfter b (take m es))
-unfolding bankTo bankAfter
-join-bank zero es left b j h = refl
-join-bank (suc m) [] left b j h = absurd (omega arith)
-join-bank (suc m) (x ∷ es) left b j h =
+join_bank : (m : ℕ) (es left : List Entry) (b : Bank) (j : ℕ) → m ≤ length es → bank_to (length es + j) es left b ≡ bank_to (length (drop m es) + j) (drop m es) left (bank_after b (take m es))
+unfolding bank_to bank_after
+join_bank zero es left b j h = refl
+join_bank (suc m) [] left b j h = absurd (omega arith)
+join_bank (suc m) (x ∷ es) left b j h =
     let z : length (x ∷ es) + j ≡ suc (length es + j) = omega arith in
-    rw z (join-bank m es left (bankStep b x) j (omega arith))
+    rw z (join_bank m es left (bank_step b x) j (omega arith))
 
 joined : (m : ℕ) (p : Plan) (b : Bank) → m ≤ length p.entries
-    → steppedFrom (digestOf (planWords (take m p.entries))) (record { entries = drop m p.entries; left = p.left; end = end_of p }) (bankAfter b (take m p.entries)) ≡ steppedOf p b
-unfolding steppedFrom
+    → stepped_from (digest_of (plan_words (take m p.entries))) (record { entries = drop m p.entries; left = p.left; end = end_of p }) (bank_after b (take m p.entries)) ≡ stepped_of p b
+unfolding stepped_from
 joined m p b h = λ i.
     record {
-      answers = (sym (digest-append (planWords (take m p.entries)) _ basis) ∙ ap (digestFrom basis) (sym (join-answers m p.entries (end_of p) 4 h))) i;
-      bank = ap (λ (c : Bank). digestOf (bankNumbers c)) (sym (join-bank m p.entries p.left b 4 h)) i;
+      answers = (sym (digest_append (plan_words (take m p.entries)) _ basis) ∙ ap (digest_from basis) (sym (join_answers m p.entries (end_of p) 4 h))) i;
+      bank = ap (λ (c : Bank). digest_of (bank_numbers c)) (sym (join_bank m p.entries p.left b 4 h)) i;
     }
 
 -- a run into a buffer that is too short for the plan
@@ -184,44 +184,44 @@ module _ (p : Plan) (buf : List ℕ) (short : length buf / 11 < length p.entries
   abbrev m : ℕ
   m = length buf / 11
 
-  cut-is : cut_at (length buf) p ≡ record { entries = take m p.entries; left = []; verdict = verdict.Full }
+  cut_is : cut_at (length buf) p ≡ record { entries = take m p.entries; left = []; verdict = verdict.Full }
   unfolding cut_at
-  cut-is = rw (lt-ltb m (length p.entries) short)
+  cut_is = rw (lt-ltb m (length p.entries) short)
 
-  module _ (b : Bank) (fits : BankFits b) (ws : List ℕ) (w : ws ≡ bankNumbers b) (end : End) (e : end ≡ (runWords p buf ws).end) where
+  module _ (b : Bank) (fits : BankFits b) (ws : List ℕ) (w : ws ≡ bank_numbers b) (end : End) (e : end ≡ (run_words p buf ws).end) where
     written : end.entries ≡ m
-    unfolding runWords end_of
-    written = ap (λ (x : End). x.entries) e ∙ ap (λ (x : Plan). length x.entries) cut-is ∙ length-take-le m p.entries (omega arith)
+    unfolding run_words end_of
+    written = ap (λ (x : End). x.entries) e ∙ ap (λ (x : Plan). length x.entries) cut_is ∙ length-take-le m p.entries (omega arith)
 
     pub passable : end.entries ≤ length p.entries
     passable = omega (arith, written, short)
 
-    pub mixed-is : (after out : List ℕ) → after ≡ (runWords p buf ws).bank → out ≡ (runWords p buf ws).buffer → (g : ℕ) → g ≡ digestOf (take (11 * end.entries) out) → (q : Planner) → Passed end.entries (comingOf p) q
-        → (r : Digests) → r ≡ steppedFrom g (coming q) (bankFrom after) → r ≡ steppedOf p b
-    unfolding runWords
-    mixed-is after out a o g d q h r s =
+    pub mixed_is : (after out : List ℕ) → after ≡ (run_words p buf ws).bank → out ≡ (run_words p buf ws).buffer → (g : ℕ) → g ≡ digest_of (take (11 * end.entries) out) → (q : Planner) → Passed end.entries (coming_of p) q
+        → (r : Digests) → r ≡ stepped_from g (coming q) (bank_from after) → r ≡ stepped_of p b
+    unfolding run_words
+    mixed_is after out a o g d q h r s =
         let es = take m p.entries in
         let n = rw written at h in
-        let standing-is : g ≡ digestOf (planWords es) = d ∙ ap digestOf (standing p buf ws end e out o ∙ ap (λ (x : Plan). planWords x.entries) cut-is) in
-        let after_is : after ≡ bankNumbers (bankAfter b es) = a ∙ ap (λ (x : Plan). wordsAfter ws (x.entries ++ x.left)) cut-is ∙ ap (wordsAfter ws) (append-nil es) ∙ ap (λ (x : List ℕ). wordsAfter x es) w ∙ words-after es b fits.eight in
-        let bank-is : bankFrom after ≡ bankAfter b es = ap bankFrom after_is ∙ bank-back (bankAfter b es) (after-fits es b fits n.narrow) in
-        s ∙ rw (standing-is, n.rest, bank-is) (joined m p b (omega (arith, short)))
+        let standing_is : g ≡ digest_of (plan_words es) = d ∙ ap digest_of (standing p buf ws end e out o ∙ ap (λ (x : Plan). plan_words x.entries) cut_is) in
+        let after_is : after ≡ bank_numbers (bank_after b es) = a ∙ ap (λ (x : Plan). words_after ws (x.entries ++ x.left)) cut_is ∙ ap (words_after ws) (append-nil es) ∙ ap (λ (x : List ℕ). words_after x es) w ∙ words_after_lem es b fits.eight in
+        let bank_is : bank_from after ≡ bank_after b es = ap bank_from after_is ∙ bank_back (bank_after b es) (after_fits es b fits n.narrow) in
+        s ∙ rw (standing_is, n.rest, bank_is) (joined m p b (omega (arith, short)))
 
 -- ---- all of a record
 
-pub entries-are : (p : Plan) (end : End) → end ≡ end_of p → end.entries ≡ length p.entries
+pub entries_are : (p : Plan) (end : End) → end ≡ end_of p → end.entries ≡ length p.entries
 unfolding end_of
-entries-are p end e = ap (λ (x : End). x.entries) e
+entries_are p end e = ap (λ (x : End). x.entries) e
 
-module _ (p : Plan) (room chunk : ℕ) (b : Bank) (run : Outcome) (end : End) (steps : Digests) (r : run ≡ outcomeOf p room (bankNumbers b)) (e : end ≡ end_of p) (s : steps ≡ steppedOf p b) where
-  all-is : (d : Mixed) → d ≡ mixedOf p chunk b → record { run = run; end = end; steps = steps; mixed = d } ≡ replayedOf p room chunk b
-  unfolding replayedOf
-  all-is d i = λ j. record { run = r j; end = e j; steps = s j; mixed = i j }
+module _ (p : Plan) (room chunk : ℕ) (b : Bank) (run : Outcome) (end : End) (steps : Digests) (r : run ≡ outcome_of p room (bank_numbers b)) (e : end ≡ end_of p) (s : steps ≡ stepped_of p b) where
+  all_is : (d : Mixed) → d ≡ mixed_of p chunk b → record { run = run; end = end; steps = steps; mixed = d } ≡ replayed_of p room chunk b
+  unfolding replayed_of
+  all_is d i = λ j. record { run = r j; end = e j; steps = s j; mixed = i j }
 
-  pub replayed-cut : chunk / 11 < end.entries → (d : Digests) → d ≡ steppedOf p b → record { run = run; end = end; steps = steps; mixed = mixed.Cut d } ≡ replayedOf p room chunk b
-  unfolding mixedOf
-  replayed-cut h d i = all-is (mixed.Cut d) (ap mixed.Cut i ∙ rw (lt-ltb (chunk / 11) (length p.entries) (omega (arith, entries-are p end e))))
+  pub replayed_cut : chunk / 11 < end.entries → (d : Digests) → d ≡ stepped_of p b → record { run = run; end = end; steps = steps; mixed = mixed.Cut d } ≡ replayed_of p room chunk b
+  unfolding mixed_of
+  replayed_cut h d i = all_is (mixed.Cut d) (ap mixed.Cut i ∙ rw (lt-ltb (chunk / 11) (length p.entries) (omega (arith, entries_are p end e))))
 
-  pub replayed-whole : end.entries ≤ chunk / 11 → record { run = run; end = end; steps = steps; mixed = mixed.Whole } ≡ replayedOf p room chunk b
-  unfolding mixedOf
-  replayed-whole h = all-is mixed.Whole (rw (le-ltb (chunk / 11) (length p.entries) (omega (arith, entries-are p end e))))
+  pub replayed_whole : end.entries ≤ chunk / 11 → record { run = run; end = end; steps = steps; mixed = mixed.Whole } ≡ replayed_of p room chunk b
+  unfolding mixed_of
+  replayed_whole h = all_is mixed.Whole (rw (le-ltb (chunk / 11) (length p.entries) (omega (arith, entries_are p end e))))

@@ -3,16 +3,16 @@
 use Rattle.std.specs.Prelude.{List, [], ◌∷◌, ◌++◌, ℕ, zero, suc, ◌*◌}
 use Rattle.object.specs.Layout.{read}
 use Rattle.plan.specs.Out.{Plan}
-use Rattle.plan.specs.Run.{planWords, end_of, cut_at}
-use Rattle.giving.specs.Host.{wordsAfter}
-use Rattle.digest.specs.Fnv.{digestOf}
+use Rattle.plan.specs.Run.{plan_words, end_of, cut_at}
+use Rattle.giving.specs.Host.{words_after}
+use Rattle.digest.specs.Fnv.{digest_of}
 use Rattle.replay.specs.declared.outcome.Outcome.{Outcome}
 
 -- of a plan in a buffer of so many words
-unfoldable pub outcomeOf : Plan → (room : ℕ) → (bank : List ℕ) → Outcome
-outcomeOf p room ws =
+unfoldable pub outcome_of : Plan → (room : ℕ) → (bank : List ℕ) → Outcome
+outcome_of p room ws =
     let cut = cut_at room p in
-    record { end = end_of cut; entries = digestOf (planWords cut.entries); bank = digestOf (wordsAfter ws (cut.entries ++ cut.left)) }
+    record { end = end_of cut; entries = digest_of (plan_words cut.entries); bank = digest_of (words_after ws (cut.entries ++ cut.left)) }
 
 -- the first n words of bytes
 unfoldable pub words_in : ℕ → List ℕ → List ℕ

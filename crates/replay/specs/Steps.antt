@@ -6,46 +6,46 @@ use Rattle.plan.specs.declared.types.Entry.{Entry}
 use Rattle.plan.specs.declared.types.Answer.{Answer}
 use Rattle.plan.specs.declared.types.Answer.TheVariants as answer
 use Rattle.plan.specs.Out.{Plan}
-use Rattle.plan.specs.Run.{entryWords, end_of}
-use Rattle.plan.specs.Steps.{Coming, comingOf, answers, bankTo}
-use Rattle.giving.specs.Host.{bankNumbers, endNumbers}
-use Rattle.digest.specs.Fnv.{basis, digestFrom, digestOf}
+use Rattle.plan.specs.Run.{entry_words, end_of}
+use Rattle.plan.specs.Steps.{Coming, coming_of, answers, bank_to}
+use Rattle.giving.specs.Host.{bank_numbers, end_numbers}
+use Rattle.digest.specs.Fnv.{basis, digest_from, digest_of}
 use Rattle.replay.specs.declared.steps.Digests.{Digests}
 use Rattle.replay.specs.declared.record.Mixed.{Mixed}
 use Rattle.replay.specs.declared.record.Mixed.TheVariants as mixed
 use Rattle.replay.specs.declared.record.Replayed.{Replayed}
-use Rattle.replay.specs.Outcome.{outcomeOf}
+use Rattle.replay.specs.Outcome.{outcome_of}
 
 -- an entry's eleven words, and an end's four numbers
-unfoldable pub answerWords : Answer → List ℕ
-answerWords (answer.Entry e) = entryWords e
-answerWords (answer.End e) = endNumbers e
+unfoldable pub answer_words : Answer → List ℕ
+answer_words (answer.Entry e) = entry_words e
+answer_words (answer.End e) = end_numbers e
 
-unfoldable pub answersWords : List Answer → List ℕ
-answersWords [] = []
-answersWords (a ∷ rest) = answerWords a ++ answersWords rest
+unfoldable pub answers_words : List Answer → List ℕ
+answers_words [] = []
+answers_words (a ∷ rest) = answer_words a ++ answers_words rest
 
 -- whether an answer is an end
-unfoldable pub endsIn : Answer → ℕ
-endsIn (answer.Entry e) = 0
-endsIn (answer.End e) = 1
+unfoldable pub ends_in : Answer → ℕ
+ends_in (answer.Entry e) = 0
+ends_in (answer.End e) = 1
 
 -- the steps that answer these entries, the end, and the end three times more
 abbrev pub beyond : List Entry → ℕ
 beyond es = length es + 4
 
 -- after words that have been digested
-unfoldable pub steppedFrom : ℕ → Coming → Bank → Digests
-steppedFrom h k b =
+unfoldable pub stepped_from : ℕ → Coming → Bank → Digests
+stepped_from h k b =
     let n = beyond k.entries in
-    record { answers = digestFrom h (answersWords (answers n k.entries k.end)); bank = digestOf (bankNumbers (bankTo n k.entries k.left b)) }
+    record { answers = digest_from h (answers_words (answers n k.entries k.end)); bank = digest_of (bank_numbers (bank_to n k.entries k.left b)) }
 
-abbrev pub steppedOf : Plan → Bank → Digests
-steppedOf p b = steppedFrom basis (comingOf p) b
+abbrev pub stepped_of : Plan → Bank → Digests
+stepped_of p b = stepped_from basis (coming_of p) b
 
 -- where a plan is longer than a chunk of so many words, a run into the chunk and then steps answer what the steps alone answer
-unfoldable pub mixedOf : Plan → (chunk : ℕ) → Bank → Mixed
-mixedOf p chunk b = cond (ltb (chunk / 11) (length p.entries)) (mixed.Cut (steppedOf p b)) mixed.Whole
+unfoldable pub mixed_of : Plan → (chunk : ℕ) → Bank → Mixed
+mixed_of p chunk b = cond (ltb (chunk / 11) (length p.entries)) (mixed.Cut (stepped_of p b)) mixed.Whole
 
-unfoldable pub replayedOf : Plan → (room chunk : ℕ) → Bank → Replayed
-replayedOf p room chunk b = record { run = outcomeOf p room (bankNumbers b); end = end_of p; steps = steppedOf p b; mixed = mixedOf p chunk b }
+unfoldable pub replayed_of : Plan → (room chunk : ℕ) → Bank → Replayed
+replayed_of p room chunk b = record { run = outcome_of p room (bank_numbers b); end = end_of p; steps = stepped_of p b; mixed = mixed_of p chunk b }

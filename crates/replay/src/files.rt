@@ -1,12 +1,12 @@
 // The two files: a bank of 136 words, and records of 64 bytes.
 ghost use Rattle.std.specs.Prelude.{◌≡◌, ℕ, ◌%◌, min, length, take};
 ghost use Rattle.object.specs.Layout.{Held, read};
-ghost use Rattle.plan.specs.Check.{requestAt};
+ghost use Rattle.plan.specs.Check.{request_at};
 ghost use Rattle.plan.specs.Whole.{plan_of};
-ghost use Rattle.request.specs.Host.{withBytes};
-ghost use Rattle.giving.specs.Host.{bankFrom};
+ghost use Rattle.request.specs.Host.{with_bytes};
+ghost use Rattle.giving.specs.Host.{bank_from};
 ghost use Rattle.replay.specs.Outcome.{words_in};
-ghost use Rattle.replay.specs.Steps.{replayedOf};
+ghost use Rattle.replay.specs.Steps.{replayed_of};
 
 use crate::record::{Replayed, run_and_step};
 use object::{Scissor, field_from};
@@ -52,7 +52,7 @@ fn chunk() -> [u64; 121]
 // What a record asks besides its object. It is longer than a case, so the case is never short.
 fn asked(bytes: &[u8]) -> Request
     requires { length bytes.now ≡ 64 }
-    ensures { (n : ℕ) → withBytes (take n bytes.now) result ≡ requestAt n bytes.now }
+    ensures { (n : ℕ) → with_bytes (take n bytes.now) result ≡ request_at n bytes.now }
 {
     let Case::Request(q) = request::from_bytes(bytes) else {
         let scissor = Scissor {
@@ -74,7 +74,7 @@ fn asked(bytes: &[u8]) -> Request
 // A case, how many of the object's bytes the planner gets, and the words of its buffer; the chunk has these modulo 121.
 pub(crate) fn record_replayed(bytes: &[u8], stored: [u64; 136]) -> Replayed
     requires { length bytes.now ≡ 64 }
-    ensures { result ≡ replayedOf (plan_of (requestAt (min 40 (read bytes.now 61 1)) bytes.now)) (min 2816 (read bytes.now 62 2)) (min 2816 (read bytes.now 62 2) % 121) (bankFrom stored) }
+    ensures { result ≡ replayed_of (plan_of (request_at (min 40 (read bytes.now 61 1)) bytes.now)) (min 2816 (read bytes.now 62 2)) (min 2816 (read bytes.now 62 2) % 121) (bank_from stored) }
 {
     let count = at_most(bytes, 61, 1, 40);
     let room = at_most(bytes, 62, 2, 2816);

@@ -1,8 +1,8 @@
 // What a run leaves: the end, and digests of the entries that stand and of the bank.
 ghost use Rattle.std.specs.Prelude.{◌≡◌, length};
 ghost use Rattle.plan.specs.Whole.{plan_of};
-ghost use Rattle.request.specs.Host.{withBytes};
-ghost use Rattle.replay.specs.Outcome.{outcomeOf};
+ghost use Rattle.request.specs.Host.{with_bytes};
+ghost use Rattle.replay.specs.Outcome.{outcome_of};
 
 use digest::digest;
 use plan::End;
@@ -17,7 +17,7 @@ pub struct Outcome {
 
 // Whatever stood in the buffer.
 pub(crate) fn run_into(object: &[u8], q: Request, bank: &mut [u64], plan: &mut [u64]) -> Outcome
-    ensures { result ≡ outcomeOf (plan_of (withBytes object.now q)) (length plan.old) bank.old }
+    ensures { result ≡ outcome_of (plan_of (with_bytes object.now q)) (length plan.old) bank.old }
 {
     let end = runs::run(
         object, q.opcode, q.scissor, q.mode, q.address, &mut *bank, &mut *plan,

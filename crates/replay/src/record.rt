@@ -1,9 +1,9 @@
 // All that is replayed of a record.
 ghost use Rattle.std.specs.Prelude.{◌≡◌, length};
 ghost use Rattle.plan.specs.Whole.{plan_of};
-ghost use Rattle.giving.specs.Host.{bankFrom};
-ghost use Rattle.request.specs.Host.{withBytes};
-ghost use Rattle.replay.specs.Steps.{replayedOf};
+ghost use Rattle.giving.specs.Host.{bank_from};
+ghost use Rattle.request.specs.Host.{with_bytes};
+ghost use Rattle.replay.specs.Steps.{replayed_of};
 
 use crate::outcome::{Outcome, run_into};
 use crate::steps::{Digests, mixed, stepped};
@@ -34,7 +34,7 @@ pub(crate) fn run_and_step(
     plan: &mut [u64],
     chunk: &mut [u64],
 ) -> Replayed
-    ensures { result ≡ replayedOf (plan_of (withBytes object.now q)) (length plan.old) (length chunk.old) (bankFrom stored) }
+    ensures { result ≡ replayed_of (plan_of (with_bytes object.now q)) (length plan.old) (length chunk.old) (bank_from stored) }
 {
     let bank = bank_from(&stored);
     let mut words = words_of(bank);

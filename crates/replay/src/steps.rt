@@ -1,11 +1,11 @@
 // Steps with a bank, and steps after a run: digests of what they answer and of the bank after them.
 ghost use Rattle.std.specs.Prelude.{◌≡◌, ◌/◌, ◌≤◌, ◌<◌, length};
 ghost use Rattle.plan.specs.Whole.{plan_of};
-ghost use Rattle.giving.specs.Host.{bankFrom};
-ghost use Rattle.digest.specs.Fnv.{digestFrom};
+ghost use Rattle.giving.specs.Host.{bank_from};
+ghost use Rattle.digest.specs.Fnv.{digest_from};
 ghost use Rattle.planner.specs.Coming.{Sound, coming};
-ghost use Rattle.request.specs.Host.{withBytes};
-ghost use Rattle.replay.specs.Steps.{answerWords, steppedFrom, steppedOf, endsIn};
+ghost use Rattle.request.specs.Host.{with_bytes};
+ghost use Rattle.replay.specs.Steps.{answer_words, stepped_from, stepped_of, ends_in};
 ghost use Rattle.replay.specs.Passed.{Passed};
 
 use banks::{bank_from, words_of};
@@ -22,7 +22,7 @@ pub struct Digests {
 }
 
 fn answer_into(hash: u64, a: Answer) -> u64
-    ensures { result ≡ digestFrom hash (answerWords a) }
+    ensures { result ≡ digest_from hash (answer_words a) }
 {
     match a {
         Answer::Entry(entry) => {
@@ -42,9 +42,9 @@ fn answer_into(hash: u64, a: Answer) -> u64
     }
 }
 
-#[tactic(auto, unfolding(crate::specs::Steps::endsIn))]
+#[tactic(auto, unfolding(crate::specs::Steps::ends_in))]
 fn ends_in(a: Answer) -> u64
-    ensures { result ≡ endsIn a }
+    ensures { result ≡ ends_in a }
 {
     match a {
         Answer::Entry(_) => 0,
@@ -55,7 +55,7 @@ fn ends_in(a: Answer) -> u64
 // To the end, and three steps beyond it.
 fn steps_from(start: Planner, bank: Bank, before: u64) -> Digests
     requires { Sound start }
-    ensures { result ≡ steppedFrom before (coming start) bank }
+    ensures { result ≡ stepped_from before (coming start) bank }
 {
     let mut p = start;
     let mut b = bank;
@@ -75,7 +75,7 @@ fn steps_from(start: Planner, bank: Bank, before: u64) -> Digests
 }
 
 pub(crate) fn stepped(object: &[u8], q: Request, bank: Bank) -> Digests
-    ensures { result ≡ steppedOf (plan_of (withBytes object.now q)) bank }
+    ensures { result ≡ stepped_of (plan_of (with_bytes object.now q)) bank }
 {
     let p = starts::fresh(object, q.opcode, q.scissor, q.mode, q.address);
     steps_from(p, bank, BASIS)
@@ -98,8 +98,8 @@ fn pass_over(start: Planner, n: u64) -> Planner
 
 // A run into a chunk that is too short for the plan, then steps with the bank that the run left.
 pub(crate) fn mixed(object: &[u8], q: Request, stored: &[u64], chunk: &mut [u64]) -> Digests
-    requires { (length stored.now ≡ 136) × (length chunk.old / 11 < length (plan_of (withBytes object.now q)).entries) }
-    ensures { result ≡ steppedOf (plan_of (withBytes object.now q)) (bankFrom stored.now) }
+    requires { (length stored.now ≡ 136) × (length chunk.old / 11 < length (plan_of (with_bytes object.now q)).entries) }
+    ensures { result ≡ stepped_of (plan_of (with_bytes object.now q)) (bank_from stored.now) }
 {
     let mut words = words_of(bank_from(stored));
     let end = runs::run(

@@ -8,15 +8,15 @@ use Rattle.std.proofs.Math.Dec.{ltb}
 use Rattle.std.proofs.Math.ListN.{length}
 use borrow.Author.Tests.{ltb-true, ltb-false}
 use Rattle.object.specs.Layout.{read}
-use Rattle.plan.specs.Check.{requestAt}
+use Rattle.plan.specs.Check.{request_at}
 use Rattle.request.specs.declared.types.Request.{Request}
 use Rattle.request.specs.declared.types.Case.{Case}
 use Rattle.request.specs.declared.types.Case.TheVariants as case
-use Rattle.request.specs.Host.{withBytes}
+use Rattle.request.specs.Host.{with_bytes}
 
 -- what a case asks besides its object
-unfoldable pub askedAt : List ℕ → Request
-askedAt bs =
+unfoldable pub asked_at : List ℕ → Request
+asked_at bs =
     record {
       opcode = read bs 52 1;
       scissor = record { ulx = pos (read bs 40 2); uly = pos (read bs 42 2); lrx = pos (read bs 44 2); lry = pos (read bs 46 2) };
@@ -26,26 +26,26 @@ askedAt bs =
 
 -- D "Program `bgplan` reads 61 bytes"; fewer are no case
 unfoldable pub case_of : List ℕ → Case
-case_of bs = cond (ltb (length bs) 61) case.Short (case.Request (askedAt bs))
+case_of bs = cond (ltb (length bs) 61) case.Short (case.Request (asked_at bs))
 
 -- what an answer says of the bytes, however many of the object's the planner gets
 module _ (bs : List ℕ) where
-  pub asked_is : (n : ℕ) → withBytes (take n bs) (askedAt bs) ≡ requestAt n bs
-  unfolding askedAt requestAt
+  pub asked_is : (n : ℕ) → with_bytes (take n bs) (asked_at bs) ≡ request_at n bs
+  unfolding asked_at request_at
   asked_is n = refl
 
-  pub request-of : (q : Request) → case.Request q ≡ case_of bs → (61 ≤ length bs) × ((n : ℕ) → withBytes (take n bs) q ≡ requestAt n bs)
+  pub request_of : (q : Request) → case.Request q ≡ case_of bs → (61 ≤ length bs) × ((n : ℕ) → with_bytes (take n bs) q ≡ request_at n bs)
   unfolding case_of
-  request-of q e = by (ltb (length bs) 61) refl e
+  request_of q e = by (ltb (length bs) 61) refl e
     where
-      by : (t : Bool) → ltb (length bs) 61 ≡ t → case.Request q ≡ cond t case.Short (case.Request (askedAt bs)) → (61 ≤ length bs) × ((n : ℕ) → withBytes (take n bs) q ≡ requestAt n bs)
+      by : (t : Bool) → ltb (length bs) 61 ≡ t → case.Request q ≡ cond t case.Short (case.Request (asked_at bs)) → (61 ≤ length bs) × ((n : ℕ) → with_bytes (take n bs) q ≡ request_at n bs)
       by true i e = let z : ◌≡◌ {A = ℕ} 0 1 = cc in absurd (omega arith)
-      by false i e = let k : q ≡ askedAt bs = cc in (ltb-false (length bs) 61 i, λ n. ap (withBytes (take n bs)) k ∙ asked_is n)
+      by false i e = let k : q ≡ asked_at bs = cc in (ltb-false (length bs) 61 i, λ n. ap (with_bytes (take n bs)) k ∙ asked_is n)
 
-  pub short-of : case.Short ≡ case_of bs → length bs < 61
+  pub short_of : case.Short ≡ case_of bs → length bs < 61
   unfolding case_of
-  short-of e = by (ltb (length bs) 61) refl e
+  short_of e = by (ltb (length bs) 61) refl e
     where
-      by : (t : Bool) → ltb (length bs) 61 ≡ t → case.Short ≡ cond t case.Short (case.Request (askedAt bs)) → length bs < 61
+      by : (t : Bool) → ltb (length bs) 61 ≡ t → case.Short ≡ cond t case.Short (case.Request (asked_at bs)) → length bs < 61
       by true i e = ltb-true (length bs) 61 i
       by false i e = let z : ◌≡◌ {A = ℕ} 0 1 = cc in absurd (omega arith)

@@ -1,20 +1,20 @@
 // A host's request: opcode, four edges, render mode, address, a word each.
 ghost use Rattle.std.specs.Prelude.{◌≡◌, ◌%◌, ◌^◌, length};
-ghost use Rattle.request.specs.Host.{opcodeKept, edgeKept, KeptIs};
+ghost use Rattle.request.specs.Host.{opcode_kept, edge_kept, KeptIs};
 
 use crate::types::Request;
 use object::Scissor;
 
 // No opcode lies above 255, and 0 is none.
 fn opcode(n: u64) -> u8
-    ensures { result ≡ opcodeKept n }
+    ensures { result ≡ opcode_kept n }
 {
     if n < 256 { n as u8 } else { 0 }
 }
 
 // No edge lies above 1023, and −1 is none.
 fn edge(n: u64) -> i32
-    ensures { result ≡ edgeKept n }
+    ensures { result ≡ edge_kept n }
 {
     if n < 1024 { n as i32 } else { -1 }
 }

@@ -1,7 +1,7 @@
 // A case: 40 bytes of object, four edges of 2, the render mode in 4, the opcode in 1, the address in 8.
 ghost use Rattle.std.specs.Prelude.{◌≡◌, ◌+◌, ◌≤◌, pos, length};
 ghost use Rattle.object.specs.Layout.{read};
-ghost use Rattle.request.specs.Stored.{askedAt, case_of};
+ghost use Rattle.request.specs.Stored.{asked_at, case_of};
 
 use crate::types::{Case, Request};
 use object::{Scissor, field_from};
@@ -30,7 +30,7 @@ fn mode(s: &[u8], at: usize) -> u32
 // What a case asks for besides its object.
 fn asked(s: &[u8]) -> Request
     requires { 61 ≤ length s.now }
-    ensures { result ≡ askedAt s.now }
+    ensures { result ≡ asked_at s.now }
 {
     let scissor = Scissor {
         ulx: edge(s, 40),

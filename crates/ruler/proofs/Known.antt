@@ -4,8 +4,8 @@ use Rattle.std.proofs.Common.{◌≡◌, refl, sym, ap, subst, ◌∙◌, Bool, 
 use Rattle.std.specs.Int.{w64}
 use borrow.Author.Tests.{eqb-true}
 use Rattle.signed.specs.Diff.{up, dn, zdiff, zarith}
-use Rattle.signed.specs.Floor.{floorDiv, parts}
-use Rattle.measures.specs.Measure.{quarters, inImage, wholeTexels, linesAt, ofPosition, ofLines, whole}
+use Rattle.signed.specs.Floor.{floor_div, parts}
+use Rattle.measures.specs.Measure.{quarters, in_image, whole_texels, lines_at, of_position, of_lines, whole}
 use Rattle.measures.specs.Range.{Below, Within, counted}
 use Rattle.object.specs.declared.types.ObjBg.{ObjBg}
 use Rattle.object.specs.declared.types.Scissor.{Scissor}
@@ -13,48 +13,48 @@ use Rattle.object.specs.declared.types.Checked.TheVariants as checked
 use Rattle.object.specs.declared.types.Verdict.{Verdict}
 use Rattle.object.specs.declared.types.Verdict.TheVariants as verdict
 use Rattle.object.specs.Layout.{decode}
-use Rattle.checks.specs.Check.{short, scissorBad, any, objectFaults, copyFaults, refusedBy, objectOf, checkedOf}
+use Rattle.checks.specs.Check.{short, scissor_bad, any, object_faults, copy_faults, refused_by, object_of, checked_of}
 use Rattle.checks.specs.Known.{PassedScaled}
-use Rattle.checks.specs.Passed.{checked-scaled-is}
+use Rattle.checks.specs.Passed.{checked_scaled_is}
 use Rattle.plan.specs.declared.types.Clip.{Clip}
 use Rattle.plan.specs.declared.types.Start.{Start}
 use Rattle.plan.specs.declared.types.Scaled.{Scaled}
 use Rattle.plan.specs.declared.types.First.{First}
 use Rattle.plan.specs.Request.{Request}
-use Rattle.plan.specs.Out.{yield, refuse, planOut}
-use Rattle.plan.specs.Scaled.{clipOf, scaledEmpty, start_of, scaledOf, slicesBad, first_of, scaledPlan}
+use Rattle.plan.specs.Out.{yield, refuse, plan_out}
+use Rattle.plan.specs.Scaled.{clip_of, scaled_empty, start_of, scaled_of, slices_bad, first_of, scaled_plan}
 use Rattle.plan.specs.Sound.{SoundScaled, SoundFirst}
-use Rattle.plan.specs.Whole.{scaledOut, checkedOut, planWith, plan_of}
-use Rattle.plan.specs.Demand.{driftOf, stripsOf, aheads}
+use Rattle.plan.specs.Whole.{scaled_out, checked_out, plan_with, plan_of}
+use Rattle.plan.specs.Demand.{drift_of, strips_of, aheads}
 use Rattle.scaled.specs.Range.{Usable, Filled, StartIn, ClipIs, StartIs, ScaledIs}
 use Rattle.first.specs.Near.{Near, FirstIs}
 use Rattle.small.specs.SmallPlans.{scaled_small}
 use Rattle.ruler.specs.declared.types.Ruler.{Ruler}
 use Rattle.ruler.specs.declared.types.Found.{Found}
 use Rattle.ruler.specs.declared.types.Found.TheVariants as found
-use Rattle.ruler.specs.Drifts.{driftsOf, scaledSet, setUp, driftIn, rulerFrom, stripsAt, first_at, rulerOf, SoundRuler, MadeIn, RulerScaled, FoundScaled, RulerIs, FoundIs}
-use Rattle.ruler.proofs.Ranges.{quotient-in, scaled-parts}
+use Rattle.ruler.specs.Drifts.{drifts_of, scaled_set, set_up, drift_in, ruler_from, strips_at, first_at, ruler_of, SoundRuler, MadeIn, RulerScaled, FoundScaled, RulerIs, FoundIs}
+use Rattle.ruler.proofs.Ranges.{quotient_in, scaled_parts}
 
 -- ---- ranges
 
 -- the distance from the origin, in 1,024ths of a line
-offset-in : (y o : ℤ) (h : ℕ) → 1 ≤ h → Below 20 y → neg_ℤ (pos (2 ^ 33)) ≤ℤ o → o ≤ℤ pos (2 ^ 33) → (up (ofLines (floorDiv (ofPosition (y -ℤ o)) h)) ≤ 2 ^ 48 + 2 ^ 36) × (dn (ofLines (floorDiv (ofPosition (y -ℤ o)) h)) ≤ 2 ^ 48 + 2 ^ 36)
-offset-in y o h l b m n =
-    let x = ofPosition (y -ℤ o) in
+offset_in : (y o : ℤ) (h : ℕ) → 1 ≤ h → Below 20 y → neg_ℤ (pos (2 ^ 33)) ≤ℤ o → o ≤ℤ pos (2 ^ 33) → (up (of_lines (floor_div (of_position (y -ℤ o)) h)) ≤ 2 ^ 48 + 2 ^ 36) × (dn (of_lines (floor_div (of_position (y -ℤ o)) h)) ≤ 2 ^ 48 + 2 ^ 36)
+offset_in y o h l b m n =
+    let x = of_position (y -ℤ o) in
     let hi : x ≤ℤ pos (2 ^ 38 + 2 ^ 26) = simp zdiff (omega (zarith, b.high)) in
     let lo : neg_ℤ (pos (2 ^ 38 + 2 ^ 26)) ≤ℤ x = simp zdiff (omega (zarith, b.low)) in
     by x hi lo
   where
-    by : (x : ℤ) → x ≤ℤ pos (2 ^ 38 + 2 ^ 26) → neg_ℤ (pos (2 ^ 38 + 2 ^ 26)) ≤ℤ x → (up (ofLines (floorDiv x h)) ≤ 2 ^ 48 + 2 ^ 36) × (dn (ofLines (floorDiv x h)) ≤ 2 ^ 48 + 2 ^ 36)
+    by : (x : ℤ) → x ≤ℤ pos (2 ^ 38 + 2 ^ 26) → neg_ℤ (pos (2 ^ 38 + 2 ^ 26)) ≤ℤ x → (up (of_lines (floor_div x h)) ≤ 2 ^ 48 + 2 ^ 36) × (dn (of_lines (floor_div x h)) ≤ 2 ^ 48 + 2 ^ 36)
     by x hi lo =
         let p = parts x h l in
-        let hi' : ofLines (floorDiv x h) ≤ℤ pos (2 ^ 48 + 2 ^ 36) = simp zdiff (omega zarith) in
-        let lo' : neg_ℤ (pos (2 ^ 48 + 2 ^ 36)) ≤ℤ ofLines (floorDiv x h) = simp zdiff (omega zarith) in
+        let hi' : of_lines (floor_div x h) ≤ℤ pos (2 ^ 48 + 2 ^ 36) = simp zdiff (omega zarith) in
+        let lo' : neg_ℤ (pos (2 ^ 48 + 2 ^ 36)) ≤ℤ of_lines (floor_div x h) = simp zdiff (omega zarith) in
         (omega zarith, omega zarith)
 
 -- a strip's number, and its rows: a strip has at least 16 1,024ths of a line for each of its rows
-slice_in : (e : ℤ) (f rows : ℕ) → 16 ≤ f → f ≤ 2 ^ 29 → 16 * rows ≤ f → (up e ≤ 2 ^ 48 + 2 ^ 36) × (dn e ≤ 2 ^ 48 + 2 ^ 36) → Within 45 (floorDiv e f) × Within 45 (pos rows *ℤ floorDiv e f)
-slice_in e f rows l u r b = by (floorDiv e f) (quotient-in e f)
+slice_in : (e : ℤ) (f rows : ℕ) → 16 ≤ f → f ≤ 2 ^ 29 → 16 * rows ≤ f → (up e ≤ 2 ^ 48 + 2 ^ 36) × (dn e ≤ 2 ^ 48 + 2 ^ 36) → Within 45 (floor_div e f) × Within 45 (pos rows *ℤ floor_div e f)
+slice_in e f rows l u r b = by (floor_div e f) (quotient_in e f)
   where
     by : (k : ℤ) → (up k * f ≤ up e) × (dn k * f ≤ dn e + f) → Within 45 k × Within 45 (pos rows *ℤ k)
     by k q =
@@ -62,83 +62,83 @@ slice_in e f rows l u r b = by (floorDiv e f) (quotient-in e f)
         let d = mul-le-mul_right (dn k) l in
         let v = mul-le-mul_right (up k) r in
         let w = mul-le-mul_right (dn k) r in
-        let p = scaled-parts rows k in
+        let p = scaled_parts rows k in
         (record { low = omega (zarith, q.1); high = omega (zarith, q.0) }, record { low = omega (zarith, q.1, p.0, p.1); high = omega (zarith, q.0, p.0, p.1) })
 
-frame-least : (rows h : ℕ) → 1 ≤ h → h ≤ 65535 → 16 * rows ≤ rows * 2 ^ 20 / h
-frame-least rows h l u = (le-div_iff_mul-le l).1 (let m = mul-le-mul_right (16 * rows) u in omega arith)
+frame_least : (rows h : ℕ) → 1 ≤ h → h ≤ 65535 → 16 * rows ≤ rows * 2 ^ 20 / h
+frame_least rows h l u = (le-div_iff_mul-le l).1 (let m = mul-le-mul_right (16 * rows) u in omega arith)
 
-module _ (z : Scaled) (i : Start) (v : SoundScaled z) (n : Near i) (f : z.frame_rows ≡ linesAt z.image_rows z.scale_h.0) where
-  pub first-slice : Within 45 (first_of z i).slice × Within 45 (pos z.image_rows *ℤ (first_of z i).slice)
+module _ (z : Scaled) (i : Start) (v : SoundScaled z) (n : Near i) (f : z.frame_rows ≡ lines_at z.image_rows z.scale_h.0) where
+  pub first_slice : Within 45 (first_of z i).slice × Within 45 (pos z.image_rows *ℤ (first_of z i).slice)
   unfolding first_of
-  first-slice = slice_in (ofLines (floorDiv (ofPosition (i.image_y.0 -ℤ i.origin.0)) z.scale_h.0)) z.frame_rows z.image_rows v.frame-rows v.frame-rows' (rw f (frame-least z.image_rows z.scale_h.0 v.scale-h v.scale-h')) (offset-in i.image_y.0 i.origin.0 z.scale_h.0 v.scale-h n.image-y n.low n.high)
+  first_slice = slice_in (of_lines (floor_div (of_position (i.image_y.0 -ℤ i.origin.0)) z.scale_h.0)) z.frame_rows z.image_rows v.frame_rows v.frame_rows' (rw f (frame_least z.image_rows z.scale_h.0 v.scale_h v.scale_h')) (offset_in i.image_y.0 i.origin.0 z.scale_h.0 v.scale_h n.image_y n.low n.high)
 
 pub below_up : (k : ℕ) (z : ℤ) → Below k z → up z ≤ 2 ^ k - 1
 below_up k z b = omega (zarith, b.high)
 
 -- what the parts of a scaled plan tell of each other
-pub strip-rows : (bg : ObjBg) (mode address : ℕ) (c : Clip) (i : Start) → ((scaledOf bg mode address c i).frame_rows ≡ linesAt (scaledOf bg mode address c i).image_rows (scaledOf bg mode address c i).scale_h.0) × ((scaledOf bg mode address c i).source_rows ≡ wholeTexels (inImage (quarters bg.image_h)))
-unfolding scaledOf
-strip-rows bg mode address c i = (refl, refl)
+pub strip_rows : (bg : ObjBg) (mode address : ℕ) (c : Clip) (i : Start) → ((scaled_of bg mode address c i).frame_rows ≡ lines_at (scaled_of bg mode address c i).image_rows (scaled_of bg mode address c i).scale_h.0) × ((scaled_of bg mode address c i).source_rows ≡ whole_texels (in_image (quarters bg.image_h)))
+unfolding scaled_of
+strip_rows bg mode address c i = (refl, refl)
 
 module _ (bg : ObjBg) (c : Clip) (i : Start) (z : Scaled) (f : First) (u : Usable bg) (d : Filled c) (n : StartIn bg i) (v : SoundScaled z) (w : SoundFirst z f)
     (s : Within 45 f.slice) (t : Within 45 (pos z.image_rows *ℤ f.slice)) where
   pub made_in : MadeIn bg c z f
-  made_in = record { image-y = u.range.image-y; top = d.top; scale-h = v.scale-h'; image-rows = v.image-rows'; first = w; slice = s; origin = u.range.image-y-orig }
+  made_in = record { image_y = u.range.image_y; top = d.top; scale_h = v.scale_h'; image_rows = v.image_rows'; first = w; slice = s; origin = u.range.image_y_orig }
 
-  pub ruler-sound : z.source_rows ≡ wholeTexels (inImage (quarters bg.image_h)) → SoundRuler (rulerFrom bg c i z f)
-  ruler-sound e =
-      let y = below_up 16 bg.image_y.0 u.range.image-y in
+  pub ruler_sound : z.source_rows ≡ whole_texels (in_image (quarters bg.image_h)) → SoundRuler (ruler_from bg c i z f)
+  ruler_sound e =
+      let y = below_up 16 bg.image_y.0 u.range.image_y in
       let top = below_up 16 c.top.0 d.top in
       let h = below_up 12 c.height.0 d.height' in
-      let p = mul-le-mul top v.scale-h' in
+      let p = mul-le-mul top v.scale_h' in
       let lo = w.slice_rows in
-      let hi = w.slice-rows' in
+      let hi = w.slice_rows' in
       record {
-        h = v.scale-h';
-        image-h = rw e (omega arith);
-        source-rows = v.source-rows;
-        source-rows' = v.source-rows';
-        image-rows = v.image-rows';
-        frame-rows = v.frame-rows';
-        first-rows = record { low = simp zdiff (omega (zarith, v.image-rows')); high = simp zdiff (omega (zarith, v.image-rows')) };
+        h = v.scale_h';
+        image_h = rw e (omega arith);
+        source_rows = v.source_rows;
+        source_rows' = v.source_rows';
+        image_rows = v.image_rows';
+        frame_rows = v.frame_rows';
+        first_rows = record { low = simp zdiff (omega (zarith, v.image_rows')); high = simp zdiff (omega (zarith, v.image_rows')) };
         carry = n.carry;
         slice = s;
         top = t;
         count = omega (zarith, w.count');
         lines = omega arith;
         start = omega arith;
-        origin = u.range.image-y-orig;
+        origin = u.range.image_y_orig;
       }
 
 module _ {bg : ObjBg} {c : Clip} {z : Scaled} {f : First} (m : MadeIn bg c z f) where
   pub rows_fit : SFits w64 f.slice_rows
-  rows_fit = omega (zarith, m.first.slice_rows, m.first.slice-rows')
+  rows_fit = omega (zarith, m.first.slice_rows, m.first.slice_rows')
 
   pub count_fits : SFits w64 f.count
   count_fits = omega (zarith, m.first.count, m.first.count')
 
 -- ---- demand 3's numbers
 
-hidden-rows : (n : ℕ) (x : ℤ) → pos n -ℤ (pos n -ℤ x) ≡ x
-hidden-rows n x = simp zdiff (omega zarith)
+hidden_rows : (n : ℕ) (x : ℤ) → pos n -ℤ (pos n -ℤ x) ≡ x
+hidden_rows n x = simp zdiff (omega zarith)
 
-drift-parts : (q : Request) → pos 0 ≤ℤ (first_at (decode 4 false q.bytes) q.scissor q.mode q.address).count → driftIn (rulerOf (decode 4 false q.bytes) q.scissor q.mode q.address) ≡ driftOf q
-unfolding driftOf first_of
-drift-parts q l =
+drift_parts : (q : Request) → pos 0 ≤ℤ (first_at (decode 4 false q.bytes) q.scissor q.mode q.address).count → drift_in (ruler_of (decode 4 false q.bytes) q.scissor q.mode q.address) ≡ drift_of q
+unfolding drift_of first_of
+drift_parts q l =
     let bg = decode 4 false q.bytes in
-    let c = clipOf bg q.scissor in
+    let c = clip_of bg q.scissor in
     let i = start_of bg c in
-    let z = scaledOf bg q.mode q.address c i in
-    let r = rulerOf bg q.scissor q.mode q.address in
+    let z = scaled_of bg q.mode q.address c i in
+    let r = ruler_of bg q.scissor q.mode q.address in
     λ j.
     record {
       h = r.h;
-      image-h = r.image_h;
-      source-rows = r.source_rows;
-      image-rows = r.image_rows;
-      frame-rows = r.frame_rows;
-      first_rows = hidden-rows z.image_rows (whole (first_of z i).image_hidden) j;
+      image_h = r.image_h;
+      source_rows = r.source_rows;
+      image_rows = r.image_rows;
+      frame_rows = r.frame_rows;
+      first_rows = hidden_rows z.image_rows (whole (first_of z i).image_hidden) j;
       carry = r.carry;
       slice = r.slice;
       count = counted l j;
@@ -149,84 +149,84 @@ drift-parts q l =
 
 -- ---- plans with nothing to measure
 
-drifts-none : (q : Request) → (plan_of q).entries ≡ [] → driftsOf q ≡ []
-unfolding driftsOf aheads
-drifts-none q e = rw e (by (eqb q.opcode 9))
+drifts_none : (q : Request) → (plan_of q).entries ≡ [] → drifts_of q ≡ []
+unfolding drifts_of aheads
+drifts_none q e = rw e (by (eqb q.opcode 9))
   where
-    by : (t : Bool) → cond t (aheads (driftOf q) 0 (stripsOf (driftOf q)) []) [] ≡ []
+    by : (t : Bool) → cond t (aheads (drift_of q) 0 (strips_of (drift_of q)) []) [] ≡ []
     by true = refl
     by false = refl
 
-pub nothing-refused : (q : Request) (v : Verdict) → checkedOf 4 q.bytes q.opcode q.scissor ≡ checked.Refused v → FoundIs q found.Nothing
-unfolding setUp plan_of planWith checkedOut
-nothing-refused q v e = (rw e, drifts-none q (rw e))
+pub nothing_refused : (q : Request) (v : Verdict) → checked_of 4 q.bytes q.opcode q.scissor ≡ checked.Refused v → FoundIs q found.Nothing
+unfolding set_up plan_of plan_with checked_out
+nothing_refused q v e = (rw e, drifts_none q (rw e))
 
-no_copy : (a b c : Bool) (bg bg' : ObjBg) → refusedBy a verdict.Short (refusedBy b verdict.Scissor (refusedBy c verdict.Object (checked.Scaled bg))) ≡ checked.Copy bg' → ⊥
+no_copy : (a b c : Bool) (bg bg' : ObjBg) → refused_by a verdict.Short (refused_by b verdict.Scissor (refused_by c verdict.Object (checked.Scaled bg))) ≡ checked.Copy bg' → ⊥
 no_copy true b c bg bg' e = let z : ◌≡◌ {A = ℕ} 0 1 = cc in omega arith
 no_copy false true c bg bg' e = let z : ◌≡◌ {A = ℕ} 0 1 = cc in omega arith
 no_copy false false true bg bg' e = let z : ◌≡◌ {A = ℕ} 0 1 = cc in omega arith
 no_copy false false false bg bg' e = let z : ◌≡◌ {A = ℕ} 0 1 = cc in omega arith
 
-no-scaled : (a b c d : Bool) (bg bg' : ObjBg) → refusedBy a verdict.Short (refusedBy b verdict.Scissor (refusedBy c verdict.Object (refusedBy d verdict.Copy (checked.Copy bg)))) ≡ checked.Scaled bg' → ⊥
-no-scaled true b c d bg bg' e = let z : ◌≡◌ {A = ℕ} 0 1 = cc in omega arith
-no-scaled false true c d bg bg' e = let z : ◌≡◌ {A = ℕ} 0 1 = cc in omega arith
-no-scaled false false true d bg bg' e = let z : ◌≡◌ {A = ℕ} 0 1 = cc in omega arith
-no-scaled false false false true bg bg' e = let z : ◌≡◌ {A = ℕ} 0 1 = cc in omega arith
-no-scaled false false false false bg bg' e = let z : ◌≡◌ {A = ℕ} 0 1 = cc in omega arith
+no_scaled : (a b c d : Bool) (bg bg' : ObjBg) → refused_by a verdict.Short (refused_by b verdict.Scissor (refused_by c verdict.Object (refused_by d verdict.Copy (checked.Copy bg)))) ≡ checked.Scaled bg' → ⊥
+no_scaled true b c d bg bg' e = let z : ◌≡◌ {A = ℕ} 0 1 = cc in omega arith
+no_scaled false true c d bg bg' e = let z : ◌≡◌ {A = ℕ} 0 1 = cc in omega arith
+no_scaled false false true d bg bg' e = let z : ◌≡◌ {A = ℕ} 0 1 = cc in omega arith
+no_scaled false false false true bg bg' e = let z : ◌≡◌ {A = ℕ} 0 1 = cc in omega arith
+no_scaled false false false false bg bg' e = let z : ◌≡◌ {A = ℕ} 0 1 = cc in omega arith
 
-nine : (bs : List ℕ) (s : Scissor) (bg : ObjBg) → checkedOf 4 bs 9 s ≡ checked.Copy bg → ⊥
-unfolding checkedOf objectOf
-nine bs s bg e = no_copy (short 4 9 bs) (scissorBad s) (any (objectFaults (decode 4 false bs))) (decode 4 false bs) bg e
+nine : (bs : List ℕ) (s : Scissor) (bg : ObjBg) → checked_of 4 bs 9 s ≡ checked.Copy bg → ⊥
+unfolding checked_of object_of
+nine bs s bg e = no_copy (short 4 9 bs) (scissor_bad s) (any (object_faults (decode 4 false bs))) (decode 4 false bs) bg e
 
-copied-opcode : (bs : List ℕ) (opcode : ℕ) (s : Scissor) (bg : ObjBg) → checkedOf 4 bs opcode s ≡ checked.Copy bg → eqb opcode 9 ≡ false
-copied-opcode bs opcode s bg e = by (eqb opcode 9) refl
+copied_opcode : (bs : List ℕ) (opcode : ℕ) (s : Scissor) (bg : ObjBg) → checked_of 4 bs opcode s ≡ checked.Copy bg → eqb opcode 9 ≡ false
+copied_opcode bs opcode s bg e = by (eqb opcode 9) refl
   where
     by : (t : Bool) → eqb opcode 9 ≡ t → eqb opcode 9 ≡ false
     by false t = t
-    by true t = absurd (nine bs s bg (ap (λ (n : ℕ). checkedOf 4 bs n s) (sym (eqb-true opcode 9 t)) ∙ e))
+    by true t = absurd (nine bs s bg (ap (λ (n : ℕ). checked_of 4 bs n s) (sym (eqb-true opcode 9 t)) ∙ e))
 
-ten : (bs : List ℕ) (s : Scissor) (bg : ObjBg) → checkedOf 4 bs 10 s ≡ checked.Scaled bg → ⊥
-unfolding checkedOf objectOf
-ten bs s bg e = no-scaled (short 4 10 bs) (scissorBad s) (any (objectFaults (decode 4 true bs))) (any (copyFaults (decode 4 true bs))) (decode 4 true bs) bg e
+ten : (bs : List ℕ) (s : Scissor) (bg : ObjBg) → checked_of 4 bs 10 s ≡ checked.Scaled bg → ⊥
+unfolding checked_of object_of
+ten bs s bg e = no_scaled (short 4 10 bs) (scissor_bad s) (any (object_faults (decode 4 true bs))) (any (copy_faults (decode 4 true bs))) (decode 4 true bs) bg e
 
-other : (bs : List ℕ) (opcode : ℕ) (s : Scissor) → eqb opcode 9 ≡ false → eqb opcode 10 ≡ false → checkedOf 4 bs opcode s ≡ checked.Refused verdict.Opcode
-unfolding checkedOf
+other : (bs : List ℕ) (opcode : ℕ) (s : Scissor) → eqb opcode 9 ≡ false → eqb opcode 10 ≡ false → checked_of 4 bs opcode s ≡ checked.Refused verdict.Opcode
+unfolding checked_of
 other bs opcode s a b = rw (a, b)
 
-scaled-opcode : (bs : List ℕ) (opcode : ℕ) (s : Scissor) (bg : ObjBg) → checkedOf 4 bs opcode s ≡ checked.Scaled bg → opcode ≡ 9
-scaled-opcode bs opcode s bg e = by (eqb opcode 9) (eqb opcode 10) refl refl
+scaled_opcode : (bs : List ℕ) (opcode : ℕ) (s : Scissor) (bg : ObjBg) → checked_of 4 bs opcode s ≡ checked.Scaled bg → opcode ≡ 9
+scaled_opcode bs opcode s bg e = by (eqb opcode 9) (eqb opcode 10) refl refl
   where
     by : (t u : Bool) → eqb opcode 9 ≡ t → eqb opcode 10 ≡ u → opcode ≡ 9
     by true u a b = eqb-true opcode 9 a
-    by false true a b = absurd (ten bs s bg (ap (λ (n : ℕ). checkedOf 4 bs n s) (sym (eqb-true opcode 10 b)) ∙ e))
+    by false true a b = absurd (ten bs s bg (ap (λ (n : ℕ). checked_of 4 bs n s) (sym (eqb-true opcode 10 b)) ∙ e))
     by false false a b = let z : ◌≡◌ {A = ℕ} 0 1 = cc (other bs opcode s a b) in absurd (omega arith)
 
-pub nothing_copied : (q : Request) (bg : ObjBg) → checkedOf 4 q.bytes q.opcode q.scissor ≡ checked.Copy bg → FoundIs q found.Nothing
-unfolding setUp driftsOf
-nothing_copied q bg e = (rw e, rw (copied-opcode q.bytes q.opcode q.scissor bg e))
+pub nothing_copied : (q : Request) (bg : ObjBg) → checked_of 4 q.bytes q.opcode q.scissor ≡ checked.Copy bg → FoundIs q found.Nothing
+unfolding set_up drifts_of
+nothing_copied q bg e = (rw e, rw (copied_opcode q.bytes q.opcode q.scissor bg e))
 
 -- ---- scaled plans
 
-not-empty : (bg : ObjBg) (s : Scissor) (mode address : ℕ) → scaledEmpty (clipOf bg s) ≡ false → slicesBad (scaledOf bg mode address (clipOf bg s) (start_of bg (clipOf bg s))) ≡ false → scaledSet bg s mode address ≡ true
-unfolding scaledSet
-not-empty bg s mode address a b = rw (a, b)
+not_empty : (bg : ObjBg) (s : Scissor) (mode address : ℕ) → scaled_empty (clip_of bg s) ≡ false → slices_bad (scaled_of bg mode address (clip_of bg s) (start_of bg (clip_of bg s))) ≡ false → scaled_set bg s mode address ≡ true
+unfolding scaled_set
+not_empty bg s mode address a b = rw (a, b)
 
-pub set-empty : (bg : ObjBg) (s : Scissor) (mode address : ℕ) → scaledEmpty (clipOf bg s) ≡ true → scaledSet bg s mode address ≡ false
-unfolding scaledSet
-set-empty bg s mode address a = rw a
+pub set_empty : (bg : ObjBg) (s : Scissor) (mode address : ℕ) → scaled_empty (clip_of bg s) ≡ true → scaled_set bg s mode address ≡ false
+unfolding scaled_set
+set_empty bg s mode address a = rw a
 
-pub set-bad : (bg : ObjBg) (s : Scissor) (mode address : ℕ) → scaledEmpty (clipOf bg s) ≡ false → slicesBad (scaledOf bg mode address (clipOf bg s) (start_of bg (clipOf bg s))) ≡ true → scaledSet bg s mode address ≡ false
-unfolding scaledSet
-set-bad bg s mode address a b = rw (a, b)
+pub set_bad : (bg : ObjBg) (s : Scissor) (mode address : ℕ) → scaled_empty (clip_of bg s) ≡ false → slices_bad (scaled_of bg mode address (clip_of bg s) (start_of bg (clip_of bg s))) ≡ true → scaled_set bg s mode address ≡ false
+unfolding scaled_set
+set_bad bg s mode address a b = rw (a, b)
 
-no-entries : (bg : ObjBg) (q : Request) → scaledSet bg q.scissor q.mode q.address ≡ false → (planOut (scaledOut bg q)).entries ≡ []
-unfolding scaledSet scaledOut
-no-entries bg q e = by (scaledEmpty (clipOf bg q.scissor)) (slicesBad z) e
+no_entries : (bg : ObjBg) (q : Request) → scaled_set bg q.scissor q.mode q.address ≡ false → (plan_out (scaled_out bg q)).entries ≡ []
+unfolding scaled_set scaled_out
+no_entries bg q e = by (scaled_empty (clip_of bg q.scissor)) (slices_bad z) e
   where
     z : Scaled
-    z = scaledOf bg q.mode q.address (clipOf bg q.scissor) (start_of bg (clipOf bg q.scissor))
+    z = scaled_of bg q.mode q.address (clip_of bg q.scissor) (start_of bg (clip_of bg q.scissor))
 
-    by : (t u : Bool) → (not t && not u) ≡ false → (planOut (elim t [ true ↦ yield tt | false ↦ elim u [ true ↦ refuse verdict.Slices | false ↦ scaledPlan z (clipOf bg q.scissor) (first_of z (start_of bg (clipOf bg q.scissor))) ] ])).entries ≡ []
+    by : (t u : Bool) → (not t && not u) ≡ false → (plan_out (elim t [ true ↦ yield tt | false ↦ elim u [ true ↦ refuse verdict.Slices | false ↦ scaled_plan z (clip_of bg q.scissor) (first_of z (start_of bg (clip_of bg q.scissor))) ] ])).entries ≡ []
     by true u e = refl
     by false true e = refl
     by false false e = let n : ◌≡◌ {A = ℕ} 0 1 = cc in absurd (omega arith)
@@ -238,55 +238,55 @@ pub record Set (bg : ObjBg) (s : Scissor) (mode address : ℕ) (c : Clip) (i : S
   pub start : StartIs bg c i
   pub scaled : ScaledIs bg mode address c i z
   pub first : FirstIs z i f
-  pub filled : scaledEmpty c ≡ false
-  pub good : slicesBad z ≡ false
+  pub filled : scaled_empty c ≡ false
+  pub good : slices_bad z ≡ false
 
 pub near : {bg : ObjBg} {i : Start} → StartIn bg i → Near i
-near s = record { image-y = s.image-y; low = s.low; high = s.high }
+near s = record { image_y = s.image_y; low = s.low; high = s.high }
 
 module _ {bg : ObjBg} {s : Scissor} {mode address : ℕ} {c : Clip} {i : Start} {z : Scaled} {f : First} (h : Set bg s mode address c i z f) where
-  strip-slice : Within 45 f.slice × Within 45 (pos z.image_rows *ℤ f.slice)
-  strip-slice =
-      let rows = rw (sym h.scaled.is) at (strip-rows bg mode address c i).0 in
-      rw (sym h.first.is) at (first-slice z i (h.scaled.sound h.good) (near h.start.inside) rows)
+  strip_slice : Within 45 f.slice × Within 45 (pos z.image_rows *ℤ f.slice)
+  strip_slice =
+      let rows = rw (sym h.scaled.is) at (strip_rows bg mode address c i).0 in
+      rw (sym h.first.is) at (first_slice z i (h.scaled.sound h.good) (near h.start.inside) rows)
 
-  pub set-made : MadeIn bg c z f
-  set-made = let k = strip-slice in made_in bg c i z f h.usable (h.clip.filled h.filled) h.start.inside (h.scaled.sound h.good) h.first.sound k.0 k.1
+  pub set_made : MadeIn bg c z f
+  set_made = let k = strip_slice in made_in bg c i z f h.usable (h.clip.filled h.filled) h.start.inside (h.scaled.sound h.good) h.first.sound k.0 k.1
 
-  pub set_is : (r : Ruler) → r ≡ rulerFrom bg c i z f → RulerScaled bg s mode address r
+  pub set_is : (r : Ruler) → r ≡ ruler_from bg c i z f → RulerScaled bg s mode address r
   set_is r e =
-      let k = strip-slice in
+      let k = strip_slice in
       let ic = h.clip.is in
-      let ii : i ≡ start_of bg (clipOf bg s) = h.start.is ∙ ap (start_of bg) ic in
-      let iz : z ≡ stripsAt bg s mode address = h.scaled.is ∙ (λ j. scaledOf bg mode address (ic j) (ii j)) in
+      let ii : i ≡ start_of bg (clip_of bg s) = h.start.is ∙ ap (start_of bg) ic in
+      let iz : z ≡ strips_at bg s mode address = h.scaled.is ∙ (λ j. scaled_of bg mode address (ic j) (ii j)) in
       let first : f ≡ first_at bg s mode address = h.first.is ∙ (λ j. first_of (iz j) (ii j)) in
       record {
-        set = not-empty bg s mode address (rw ic at h.filled) (rw iz at h.good);
-        is = e ∙ (λ j. rulerFrom bg (ic j) (ii j) (iz j) (first j));
+        set = not_empty bg s mode address (rw ic at h.filled) (rw iz at h.good);
+        is = e ∙ (λ j. ruler_from bg (ic j) (ii j) (iz j) (first j));
         count = subst (λ (x : First). pos 0 ≤ℤ x.count) first (omega (zarith, h.first.sound.count));
-        sound = rw e (ruler-sound bg c i z f h.usable (h.clip.filled h.filled) h.start.inside (h.scaled.sound h.good) h.first.sound k.0 k.1 (rw (sym h.scaled.is) at (strip-rows bg mode address c i).1));
+        sound = rw e (ruler_sound bg c i z f h.usable (h.clip.filled h.filled) h.start.inside (h.scaled.sound h.good) h.first.sound k.0 k.1 (rw (sym h.scaled.is) at (strip_rows bg mode address c i).1));
       }
 
-module _ (q : Request) (bg : ObjBg) (e : checkedOf 4 q.bytes q.opcode q.scissor ≡ checked.Scaled bg) where
-  found_nothing : scaledSet bg q.scissor q.mode q.address ≡ false → FoundIs q found.Nothing
-  unfolding setUp plan_of planWith checkedOut
-  found_nothing n = (rw e n, drifts-none q (rw e (no-entries bg q n)))
+module _ (q : Request) (bg : ObjBg) (e : checked_of 4 q.bytes q.opcode q.scissor ≡ checked.Scaled bg) where
+  found_nothing : scaled_set bg q.scissor q.mode q.address ≡ false → FoundIs q found.Nothing
+  unfolding set_up plan_of plan_with checked_out
+  found_nothing n = (rw e n, drifts_none q (rw e (no_entries bg q n)))
 
-  set-up : scaledSet bg q.scissor q.mode q.address ≡ true → setUp q ≡ true
-  unfolding setUp
-  set-up n = rw e n
+  set_up_lem : scaled_set bg q.scissor q.mode q.address ≡ true → set_up q ≡ true
+  unfolding set_up
+  set_up_lem n = rw e n
 
-  found-is : (r : Ruler) → PassedScaled bg q.scissor → q.address < 2 ^ 64 → FoundScaled bg q.scissor q.mode q.address (found.Is r) → RulerIs q r
-  found-is r p a f =
-      let b = checked-scaled-is 4 q.bytes q.opcode q.scissor bg e in
+  found_is : (r : Ruler) → PassedScaled bg q.scissor → q.address < 2 ^ 64 → FoundScaled bg q.scissor q.mode q.address (found.Is r) → RulerIs q r
+  found_is r p a f =
+      let b = checked_scaled_is 4 q.bytes q.opcode q.scissor bg e in
       record {
-        set = set-up f.set;
-        opcode = scaled-opcode q.bytes q.opcode q.scissor bg e;
-        is = ap driftIn (f.is ∙ ap (λ (o : ObjBg). rulerOf o q.scissor q.mode q.address) b) ∙ drift-parts q (subst (λ (o : ObjBg). pos 0 ≤ℤ (first_at o q.scissor q.mode q.address).count) b f.count);
+        set = set_up_lem f.set;
+        opcode = scaled_opcode q.bytes q.opcode q.scissor bg e;
+        is = ap drift_in (f.is ∙ ap (λ (o : ObjBg). ruler_of o q.scissor q.mode q.address) b) ∙ drift_parts q (subst (λ (o : ObjBg). pos 0 ≤ℤ (first_at o q.scissor q.mode q.address).count) b f.count);
         sound = f.sound;
         small = scaled_small q bg e p a;
       }
 
-  pub found-scaled : PassedScaled bg q.scissor → q.address < 2 ^ 64 → (r : Found) → FoundScaled bg q.scissor q.mode q.address r → FoundIs q r
-  found-scaled p a (found.Is r) f = found-is r p a f
-  found-scaled p a found.Nothing f = found_nothing f
+  pub found_scaled : PassedScaled bg q.scissor → q.address < 2 ^ 64 → (r : Found) → FoundScaled bg q.scissor q.mode q.address r → FoundIs q r
+  found_scaled p a (found.Is r) f = found_is r p a f
+  found_scaled p a found.Nothing f = found_nothing f

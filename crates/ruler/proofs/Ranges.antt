@@ -4,33 +4,33 @@ use Rattle.std.proofs.Common.{◌≡◌, refl, ◌∙◌, Bool, true, false, con
 use Rattle.std.specs.Int.{w64}
 use Rattle.std.specs.Int.Signed.{le_z}
 use Rattle.signed.specs.Diff.{up, dn, zdiff, zarith, neg_is}
-use Rattle.signed.specs.Floor.{floorDiv, parts}
-use Rattle.measures.specs.Measure.{wholeRows}
+use Rattle.signed.specs.Floor.{floor_div, parts}
+use Rattle.measures.specs.Measure.{whole_rows}
 use Rattle.measures.specs.Range.{Within}
 use Rattle.ruler.specs.declared.types.Ruler.{Ruler}
 use Rattle.ruler.specs.declared.types.Place.{Place}
-use Rattle.ruler.specs.Drifts.{SoundRuler, SoundPlace, StripIn, InPlace, NextAt, drawnFrom}
+use Rattle.ruler.specs.Drifts.{SoundRuler, SoundPlace, StripIn, InPlace, NextAt, drawn_from}
 
-pub sum-in : (x y : ℤ) → Within 46 x → Within 31 y → Within 47 (x +ℤ y)
-sum-in x y a b = record { low = simp zdiff (omega (zarith, a.low, b.low)); high = simp zdiff (omega (zarith, a.high, b.high)) }
+pub sum_in : (x y : ℤ) → Within 46 x → Within 31 y → Within 47 (x +ℤ y)
+sum_in x y a b = record { low = simp zdiff (omega (zarith, a.low, b.low)); high = simp zdiff (omega (zarith, a.high, b.high)) }
 
 -- a product by a natural is one of `up` and of `dn`
-pub scaled-parts : (n : ℕ) (k : ℤ) → (up (pos n *ℤ k) ≡ n * up k) × (dn (pos n *ℤ k) ≡ n * dn k)
-scaled-parts n (pos b) = (refl, omega arith)
-scaled-parts n (negsuc b) = let e = neg_is (pos (n * suc b)) in (omega (arith, e.0), e.1)
+pub scaled_parts : (n : ℕ) (k : ℤ) → (up (pos n *ℤ k) ≡ n * up k) × (dn (pos n *ℤ k) ≡ n * dn k)
+scaled_parts n (pos b) = (refl, omega arith)
+scaled_parts n (negsuc b) = let e = neg_is (pos (n * suc b)) in (omega (arith, e.0), e.1)
 
 -- a quotient times the divisor is within the dividend
-pub quotient-in : (w : ℤ) (rows : ℕ) → (up (floorDiv w rows) * rows ≤ up w) × (dn (floorDiv w rows) * rows ≤ dn w + rows)
-quotient-in (pos n) rows = (div-mul-le_self n rows, omega arith)
-quotient-in (negsuc n) rows = (omega arith, omega (arith, div-mul-le_self n rows))
+pub quotient_in : (w : ℤ) (rows : ℕ) → (up (floor_div w rows) * rows ≤ up w) × (dn (floor_div w rows) * rows ≤ dn w + rows)
+quotient_in (pos n) rows = (div-mul-le_self n rows, omega arith)
+quotient_in (negsuc n) rows = (omega arith, omega (arith, div-mul-le_self n rows))
 
 -- whole images, in 1,024ths of a row: image_h is less than 8 times the rows, and m times the rows is within the strip's row
-pub images-in : (image rows : ℕ) (w : ℤ) → image ≤ 4 * rows + 3 → 1 ≤ rows → rows ≤ 16383 → Within 48 w → Within 60 (pos (256 * image) *ℤ floorDiv w rows)
-images-in image rows w i l u b = by (floorDiv w rows) (quotient-in w rows) (omega (zarith, b.high)) (omega (zarith, b.low))
+pub images_in : (image rows : ℕ) (w : ℤ) → image ≤ 4 * rows + 3 → 1 ≤ rows → rows ≤ 16383 → Within 48 w → Within 60 (pos (256 * image) *ℤ floor_div w rows)
+images_in image rows w i l u b = by (floor_div w rows) (quotient_in w rows) (omega (zarith, b.high)) (omega (zarith, b.low))
   where
     by : (m : ℤ) → (up m * rows ≤ up w) × (dn m * rows ≤ dn w + rows) → up w ≤ 2 ^ 48 → dn w ≤ 2 ^ 48 → Within 60 (pos (256 * image) *ℤ m)
     by m q x y =
-        let e = scaled-parts (256 * image) m in
+        let e = scaled_parts (256 * image) m in
         let s : image ≤ 7 * rows = omega arith in
         let a = mul-le-mul_right (up m) s in
         let d = mul-le-mul_right (dn m) s in
@@ -38,74 +38,74 @@ images-in image rows w i l u b = by (floorDiv w rows) (quotient-in w rows) (omeg
 
 -- ---- the row that a strip's images are counted from
 
-rows-sum : (x y : ℤ) (n : ℕ) → Within 47 x → n ≤ 2 ^ 23 → Within 28 y → Within 48 (x +ℤ pos n +ℤ y)
-rows-sum x y n a l b = record { low = simp zdiff (omega (zarith, a.low, b.low)); high = simp zdiff (omega (zarith, a.high, b.high)) }
+rows_sum : (x y : ℤ) (n : ℕ) → Within 47 x → n ≤ 2 ^ 23 → Within 28 y → Within 48 (x +ℤ pos n +ℤ y)
+rows_sum x y n a l b = record { low = simp zdiff (omega (zarith, a.low, b.low)); high = simp zdiff (omega (zarith, a.high, b.high)) }
 
 chosen : (t : Bool) (x : ℤ) → Within 28 x → Within 28 (cond t x (pos 0))
 chosen true x h = h
 chosen false x h = record { low = omega zarith; high = omega zarith }
 
-origin-rows : (o : ℤ) → Within 31 o → Within 31 (wholeRows o)
-origin-rows o w = let p = parts o 32 (lit< tt) in record { low = omega (zarith, w.low); high = omega (zarith, w.high) }
+origin_rows : (o : ℤ) → Within 31 o → Within 31 (whole_rows o)
+origin_rows o w = let p = parts o 32 (lit< tt) in record { low = omega (zarith, w.low); high = omega (zarith, w.high) }
 
-pub rows_in : (r : Ruler) (k : ℤ) → SoundRuler r → StripIn r k → Within 48 (pos r.image_rows *ℤ k +ℤ wholeRows r.origin +ℤ pos r.carry +ℤ cond (le_z k r.slice) r.first_rows (pos 0))
-rows_in r k s t = rows-sum _ _ r.carry (sum-in _ _ t.top (origin-rows r.origin s.origin)) s.carry (chosen (le_z k r.slice) r.first_rows s.first-rows)
+pub rows_in : (r : Ruler) (k : ℤ) → SoundRuler r → StripIn r k → Within 48 (pos r.image_rows *ℤ k +ℤ whole_rows r.origin +ℤ pos r.carry +ℤ cond (le_z k r.slice) r.first_rows (pos 0))
+rows_in r k s t = rows_sum _ _ r.carry (sum_in _ _ t.top (origin_rows r.origin s.origin)) s.carry (chosen (le_z k r.slice) r.first_rows s.first_rows)
 
 pub wide_fits : {n : ℕ} {z : ℤ} → 2 ^ n ≤ 2 ^ 62 → Within n z → SFits w64 z
 wide_fits {n} l w = omega (zarith, w.low, w.high, neg_is (pos (2 ^ n)))
 
-pub carry-fits : (x : ℤ) (n : ℕ) → Within 47 x → n ≤ 2 ^ 23 → SFits w64 (x +ℤ pos n)
-carry-fits x n w l = simp zdiff (omega (zarith, w.low, w.high))
+pub carry_fits : (x : ℤ) (n : ℕ) → Within 47 x → n ≤ 2 ^ 23 → SFits w64 (x +ℤ pos n)
+carry_fits x n w l = simp zdiff (omega (zarith, w.low, w.high))
 
 -- ---- a distance
 
-pub near-in : (x y : ℤ) → Within 32 x → Within 48 y → Within 49 (x -ℤ y)
-near-in x y a b = record { low = simp zdiff (omega (zarith, a.low, b.high)); high = simp zdiff (omega (zarith, a.high, b.low)) }
+pub near_in : (x y : ℤ) → Within 32 x → Within 48 y → Within 49 (x -ℤ y)
+near_in x y a b = record { low = simp zdiff (omega (zarith, a.low, b.high)); high = simp zdiff (omega (zarith, a.high, b.low)) }
 
-pub distance-in : (x y : ℤ) → Within 49 x → Within 60 y → Within 61 (x +ℤ y)
-distance-in x y a b = record { low = simp zdiff (omega (zarith, a.low, b.low)); high = simp zdiff (omega (zarith, a.high, b.high)) }
+pub distance_in : (x y : ℤ) → Within 49 x → Within 60 y → Within 61 (x +ℤ y)
+distance_in x y a b = record { low = simp zdiff (omega (zarith, a.low, b.low)); high = simp zdiff (omega (zarith, a.high, b.high)) }
 
 -- the first line of a rectangle
-pub first-line : (a b h e : ℕ) (u v : ℤ) → (pos a +ℤ u) -ℤ pos (b + h * e) +ℤ v ≡ (pos a +ℤ u +ℤ pos (h * 0)) -ℤ pos (b + h * (0 + e)) +ℤ v
-first-line a b h e u v = let z : h * 0 ≡ 0 = omega arith in rw z (simp zdiff (omega zarith))
+pub first_line : (a b h e : ℕ) (u v : ℤ) → (pos a +ℤ u) -ℤ pos (b + h * e) +ℤ v ≡ (pos a +ℤ u +ℤ pos (h * 0)) -ℤ pos (b + h * (0 + e)) +ℤ v
+first_line a b h e u v = let z : h * 0 ≡ 0 = omega arith in rw z (simp zdiff (omega zarith))
 
 -- ---- places
 
 module _ {p : Place} (i : InPlace p) where
-  pub place-fits : SFits w64 p.k
-  place-fits = let h = simp zdiff at i.high in omega (zarith, i.low)
+  pub place_fits : SFits w64 p.k
+  place_fits = let h = simp zdiff at i.high in omega (zarith, i.low)
 
-strip-top : (rows : ℕ) (slice : ℤ) (n : ℕ) → rows ≤ 512 → n ≤ 66495 → Within 45 (pos rows *ℤ slice) → Within 46 (pos rows *ℤ (slice +ℤ pos n))
-strip-top rows slice n r l w =
+strip_top : (rows : ℕ) (slice : ℤ) (n : ℕ) → rows ≤ 512 → n ≤ 66495 → Within 45 (pos rows *ℤ slice) → Within 46 (pos rows *ℤ (slice +ℤ pos n))
+strip_top rows slice n r l w =
     let e : pos rows *ℤ (slice +ℤ pos n) ≡ pos rows *ℤ slice +ℤ pos (rows * n) = simp zdiff (omega zarith) in
     rw e (by (pos rows *ℤ slice) (rows * n) w (mul-le-mul r l))
   where
     by : (x : ℤ) (m : ℕ) → Within 45 x → m ≤ 512 * 66495 → Within 46 (x +ℤ pos m)
     by x m w l = record { low = simp zdiff (omega (zarith, w.low)); high = simp zdiff (omega (zarith, w.high)) }
 
-strip-number : (slice : ℤ) (n : ℕ) → n ≤ 66495 → Within 45 slice → Within 46 (slice +ℤ pos n)
-strip-number slice n l w = record { low = simp zdiff (omega (zarith, w.low)); high = simp zdiff (omega (zarith, w.high)) }
+strip_number : (slice : ℤ) (n : ℕ) → n ≤ 66495 → Within 45 slice → Within 46 (slice +ℤ pos n)
+strip_number slice n l w = record { low = simp zdiff (omega (zarith, w.low)); high = simp zdiff (omega (zarith, w.high)) }
 
 module _ (r : Ruler) (h : SoundRuler r) (f : ℕ) (p s : Place) (g : SoundPlace r p) (n : NextAt f p s) where
   -- the strip that draws next, by the passes since strip `slice`
-  next-since : s.k ≡ r.slice +ℤ pos (g.since + n.idle)
-  next-since = n.at ∙ rw g.at (simp zdiff (omega zarith))
+  next_since : s.k ≡ r.slice +ℤ pos (g.since + n.idle)
+  next_since = n.at ∙ rw g.at (simp zdiff (omega zarith))
 
-  next-few : g.since + n.idle + s.fuel ≤ 66495
-  next-few = omega (arith, g.few, n.few)
+  next_few : g.since + n.idle + s.fuel ≤ 66495
+  next_few = omega (arith, g.few, n.few)
 
-  pub next-strip : StripIn r s.k
-  next-strip =
-      let l : g.since + n.idle ≤ 66495 = omega (arith, next-few) in
-      rw next-since (record { strip = strip-number r.slice _ l h.slice; top = strip-top r.image_rows r.slice _ h.image-rows l h.top })
+  pub next_strip : StripIn r s.k
+  next_strip =
+      let l : g.since + n.idle ≤ 66495 = omega (arith, next_few) in
+      rw next_since (record { strip = strip_number r.slice _ l h.slice; top = strip_top r.image_rows r.slice _ h.image_rows l h.top })
 
   -- and the place after it
-  pub drawn-place : (lines : ℕ) → f ≤ 536870912 → lines ≤ 16383 → SoundPlace r (drawnFrom f s lines)
-  drawn-place lines b l =
+  pub drawn_place : (lines : ℕ) → f ≤ 536870912 → lines ≤ 16383 → SoundPlace r (drawn_from f s lines)
+  drawn_place lines b l =
       let u = n.fuel in
-      let few = next-few in
+      let few = next_few in
       let i = n.place in
-      let e : s.k +ℤ pos 1 ≡ r.slice +ℤ pos (g.since + n.idle + 1) = rw next-since (simp zdiff (omega zarith)) in
+      let e : s.k +ℤ pos 1 ≡ r.slice +ℤ pos (g.since + n.idle + 1) = rw next_since (simp zdiff (omega zarith)) in
       record {
         since = g.since + n.idle + 1;
         at = e;

@@ -6,23 +6,23 @@ use borrow.Author.Tests.{lt-ltb, eq-eqb, ne_eqb, ltb-true, ltb-false}
 use Rattle.signed.specs.Diff.{zdiff, zarith}
 use Rattle.plan.specs.Demand.{strips}
 use Rattle.ruler.specs.declared.types.Place.{Place}
-use Rattle.ruler.specs.Drifts.{stripsFrom, idleFrom, InPlace, NextAt}
+use Rattle.ruler.specs.Drifts.{strips_from, idle_from, InPlace, NextAt}
 
 -- no line is left, or no pass
-strips-over : (n f : ℕ) (k left count : ℤ) → lt_z (pos 0) left ≡ false → strips n f k left count ≡ []
+strips_over : (n f : ℕ) (k left count : ℤ) → lt_z (pos 0) left ≡ false → strips n f k left count ≡ []
 unfolding strips
-strips-over zero f k left count e = refl
-strips-over (suc n) f k left count e = rw (e, strips)
+strips_over zero f k left count e = refl
+strips_over (suc n) f k left count e = rw (e, strips)
 
 pub none_left : (n f : ℕ) (k : ℤ) (left : ℕ) (count : ℤ) → left ≡ 0 → strips n f k (pos left) count ≡ []
-none_left n f k left count e = strips-over n f k (pos left) count (rw e)
+none_left n f k left count e = strips_over n f k (pos left) count (rw e)
 
 -- a strip draws no more than the lines that are left
 cut_at : (t : Bool) (n f : ℕ) (k : ℤ) (a b : ℕ) (count : ℤ) → ltb a b ≡ t → strips n f k (pos a -ℤ pos b) count ≡ strips n f k (pos (a - b)) count
 cut_at true n f k a b count e =
     let h = ltb-true a b e in
     let below : lt_z (pos 0) (pos a -ℤ pos b) ≡ false = over (lt_z (pos 0) (pos a -ℤ pos b)) refl h in
-    strips-over n f k (pos a -ℤ pos b) count below ∙ sym (none_left n f k (a - b) count (omega arith))
+    strips_over n f k (pos a -ℤ pos b) count below ∙ sym (none_left n f k (a - b) count (omega arith))
   where
     over : (t : Bool) → lt_z (pos 0) (pos a -ℤ pos b) ≡ t → a < b → lt_z (pos 0) (pos a -ℤ pos b) ≡ false
     over false e h = e
@@ -32,22 +32,22 @@ cut_at false n f k a b count e =
     let s : pos a -ℤ pos b ≡ pos (a - b) = simp zdiff (omega zarith) in
     ap (λ (z : ℤ). strips n f k z count) s
 
-idle-at : (n f : ℕ) (k : ℤ) (left count : ℕ) → 1 ≤ n → 1 ≤ left → count ≤ 1023 → strips n f k (pos left) (pos count) ≡ strips (n - 1) f (k +ℤ pos 1) (pos left) (pos (count + f))
+idle_at : (n f : ℕ) (k : ℤ) (left count : ℕ) → 1 ≤ n → 1 ≤ left → count ≤ 1023 → strips n f k (pos left) (pos count) ≡ strips (n - 1) f (k +ℤ pos 1) (pos left) (pos (count + f))
 unfolding strips
-idle-at zero f k left count h l c = absurd (omega arith)
-idle-at (suc n) f k left count h l c = let e : suc n - 1 ≡ n = omega arith in rw (lt-ltb 0 left l, eq-eqb (count / 1024) 0 (omega arith), e, strips)
+idle_at zero f k left count h l c = absurd (omega arith)
+idle_at (suc n) f k left count h l c = let e : suc n - 1 ≡ n = omega arith in rw (lt-ltb 0 left l, eq-eqb (count / 1024) 0 (omega arith), e, strips)
 
-draw-at : (n f : ℕ) (k : ℤ) (left count : ℕ) → 1 ≤ n → 1 ≤ left → 1024 ≤ count → strips n f k (pos left) (pos count) ≡ k ∷ strips (n - 1) f (k +ℤ pos 1) (pos (left - count / 1024)) (pos (count % 1024 + f))
+draw_at : (n f : ℕ) (k : ℤ) (left count : ℕ) → 1 ≤ n → 1 ≤ left → 1024 ≤ count → strips n f k (pos left) (pos count) ≡ k ∷ strips (n - 1) f (k +ℤ pos 1) (pos (left - count / 1024)) (pos (count % 1024 + f))
 unfolding strips
-draw-at zero f k left count h l c = absurd (omega arith)
-draw-at (suc n) f k left count h l c =
+draw_at zero f k left count h l c = absurd (omega arith)
+draw_at (suc n) f k left count h l c =
     let e : suc n - 1 ≡ n = omega arith in
     rw (lt-ltb 0 left l, ne_eqb (count / 1024) 0 (λ e. omega arith), e, strips)
     (ap (λ (ks : List ℤ). k ∷ ks) (cut_at (ltb left (count / 1024)) n f (k +ℤ pos 1) left (count / 1024) (pos (count % 1024 + f)) refl))
 
 -- passes without a line: the same strips are to come
 pub record Idled (f : ℕ) (p s : Place) : Type 0 where
-  pub same : stripsFrom f p ≡ stripsFrom f s
+  pub same : strips_from f p ≡ strips_from f s
   pub idle : ℕ
   pub at : s.k ≡ p.k +ℤ pos idle
   pub few : idle + s.fuel ≡ p.fuel
@@ -55,15 +55,15 @@ pub record Idled (f : ℕ) (p s : Place) : Type 0 where
   pub earlier : s.earlier ≡ p.earlier
   pub place : InPlace s
 
-pub idled-more : (f : ℕ) (p s : Place) → f ≤ 536870912 → 1 ≤ s.fuel → s.count ≤ 1023 → Idled f p s → Idled f p (idleFrom f s)
-idled-more f p s b h c d =
+pub idled_more : (f : ℕ) (p s : Place) → f ≤ 536870912 → 1 ≤ s.fuel → s.count ≤ 1023 → Idled f p s → Idled f p (idle_from f s)
+idled_more f p s b h c d =
     let e = d.at in
     let i = d.place in
     let n = d.few in
     let w = simp zdiff at i.high in
     let g : s.k +ℤ pos 1 ≡ p.k +ℤ pos (d.idle + 1) = rw e (simp zdiff (omega zarith)) in
     record {
-      same = d.same ∙ idle-at s.fuel f s.k s.left s.count h d.left c;
+      same = d.same ∙ idle_at s.fuel f s.k s.left s.count h d.left c;
       idle = d.idle + 1;
       at = g;
       few = omega arith;
@@ -72,11 +72,11 @@ idled-more f p s b h c d =
       place = record { fuel = omega (arith, i.fuel); low = simp zdiff (omega (zarith, i.low)); high = simp zdiff (omega zarith); count = omega arith; earlier = omega (arith, i.earlier) };
     }
 
-pub idled-next : (f : ℕ) (p s : Place) → 1 ≤ s.fuel → 1024 ≤ s.count → Idled f p s → NextAt f p s
-idled-next f p s h c d =
+pub idled_next : (f : ℕ) (p s : Place) → 1 ≤ s.fuel → 1024 ≤ s.count → Idled f p s → NextAt f p s
+idled_next f p s h c d =
     let n = d.few in
-    record { strips = d.same ∙ draw-at s.fuel f s.k s.left s.count h d.left c; idle = d.idle; at = d.at; few = omega arith; fuel = h; earlier = d.earlier; place = d.place }
+    record { strips = d.same ∙ draw_at s.fuel f s.k s.left s.count h d.left c; idle = d.idle; at = d.at; few = omega arith; fuel = h; earlier = d.earlier; place = d.place }
 
-pub idled-over : (f : ℕ) (p s : Place) → s.fuel ≡ 0 → Idled f p s → stripsFrom f p ≡ []
+pub idled_over : (f : ℕ) (p s : Place) → s.fuel ≡ 0 → Idled f p s → strips_from f p ≡ []
 unfolding strips
-idled-over f p s e d = d.same ∙ ap (λ (n : ℕ). strips n f s.k (pos s.left) (pos s.count)) e
+idled_over f p s e d = d.same ∙ ap (λ (n : ℕ). strips n f s.k (pos s.left) (pos s.count)) e

@@ -1,10 +1,10 @@
 // What measures the plan of a request: from the checks and the set-up of a scaled plan.
 ghost use Rattle.std.specs.Prelude.{◌≡◌, ◌+◌, ◌≤◌, ◌^◌, pos, neg_ℤ, ◌-ℤ◌, ◌≤ℤ◌};
-ghost use Rattle.measures.specs.Measure.{quarters, thirtySeconds, sampledBy};
+ghost use Rattle.measures.specs.Measure.{quarters, thirty_seconds, sampled_by};
 ghost use Rattle.measures.specs.Range.{Below};
 ghost use Rattle.checks.specs.Known.{PassedScaled};
-ghost use Rattle.planner.specs.Coming.{requestOf};
-ghost use Rattle.ruler.specs.Drifts.{SoundRuler, SoundPlace, place_of, aptIn, rulerFrom, MadeIn, FoundScaled, FoundIs};
+ghost use Rattle.planner.specs.Coming.{request_of};
+ghost use Rattle.ruler.specs.Drifts.{SoundRuler, SoundPlace, place_of, apt_in, ruler_from, MadeIn, FoundScaled, FoundIs};
 
 use crate::types::{Found, Place, Ruler};
 use measures::{Quarters, Scale, ThirtySeconds};
@@ -14,7 +14,7 @@ use plan::{Clip, First, Scaled, Start};
 // Where the frame starts in the image: the clipped top is sampled.
 fn start_at(y: ThirtySeconds, top: Quarters, h: Scale) -> u64
     requires { (Below 16 y.0) × ((Below 16 top.0) × (h.0 ≤ 65535)) }
-    ensures { result ≡ thirtySeconds y + sampledBy (quarters top) h.0 }
+    ensures { result ≡ thirty_seconds y + sampled_by (quarters top) h.0 }
 {
     measures::thirty_seconds(y) + measures::thirty_seconds(measures::sampled_by(top, h))
 }
@@ -29,7 +29,7 @@ fn rows_above(image_rows: u64, slice_rows: i64) -> i64
 
 fn made(bg: ObjBg, c: Clip, i: Start, z: Scaled, f: First) -> Ruler
     requires { MadeIn bg c z f }
-    ensures { result ≡ rulerFrom bg c i z f }
+    ensures { result ≡ ruler_from bg c i z f }
 {
     let image_h = measures::quarters(bg.image_h);
     let first_rows = rows_above(z.image_rows, f.slice_rows);
@@ -70,7 +70,7 @@ fn scaled_found(bg: ObjBg, scissor: Scissor, mode: u32, address: u64) -> Found
 
 // Nothing measures a plan that has no scaled rectangle to come.
 pub fn ruler_of(object: &[u8], opcode: u8, scissor: Scissor, mode: u32, address: u64) -> Found
-    ensures { FoundIs (requestOf object.now opcode scissor mode address) result }
+    ensures { FoundIs (request_of object.now opcode scissor mode address) result }
 {
     match checks::checked(object, opcode, scissor) {
         Checked::Scaled(bg) => scaled_found(bg, scissor, mode, address),
@@ -96,7 +96,7 @@ pub fn place_of(r: Ruler) -> Place
 // Demand 3's conditions on a scaled plan.
 pub fn apt(r: Ruler) -> bool
     requires { SoundRuler r }
-    ensures { result ≡ aptIn r }
+    ensures { result ≡ apt_in r }
 {
     if r.image_h % 4 != 0 {
         return false;

@@ -1,11 +1,11 @@
 // One rectangle's distance, and demand 3's limits.
 ghost use Rattle.std.specs.Prelude.{◌≡◌, cond, ◌+◌, ◌*◌, ◌≤◌, ◌^◌, pos, ◌+ℤ◌, ◌*ℤ◌};
 ghost use Rattle.std.specs.Int.Signed.{le_z};
-ghost use Rattle.measures.specs.Measure.{wholeRows};
+ghost use Rattle.measures.specs.Measure.{whole_rows};
 ghost use Rattle.measures.specs.Range.{Within};
-ghost use Rattle.plan.specs.Demand.{wholes as wholesOf, ahead as aheadAt, behindOf, ahead_of};
+ghost use Rattle.plan.specs.Demand.{wholes as wholes_of, ahead as ahead_at, behind_of, ahead_of};
 ghost use Rattle.small.specs.Small.{Signed16, Small};
-ghost use Rattle.ruler.specs.Drifts.{driftIn, SoundRuler, SoundPlace, StripIn, RectIn, RectIs, TakenIs};
+ghost use Rattle.ruler.specs.Drifts.{drift_in, SoundRuler, SoundPlace, StripIn, RectIn, RectIs, TakenIs};
 
 use crate::strip::{drawn, next_strip};
 use crate::types::{Begun, Next, Place, Ruler, Taken};
@@ -15,7 +15,7 @@ use plan::Entry;
 // The limit behind.
 pub fn behind(h: u64) -> i64
     requires { h ≤ 65535 }
-    ensures { result ≡ behindOf h }
+    ensures { result ≡ behind_of h }
 {
     -((h + 30) as i64)
 }
@@ -31,7 +31,7 @@ pub fn ahead(h: u64, k: i64) -> i64
 // The image row at which a strip starts, whole images counted.
 fn top_row(image_rows: u64, k: i64, origin: i64) -> i64
     requires { (image_rows ≤ 512) × (Within 46 (pos image_rows *ℤ k) × Within 31 origin) }
-    ensures { (result ≡ pos image_rows *ℤ k +ℤ wholeRows origin) × Within 47 result }
+    ensures { (result ≡ pos image_rows *ℤ k +ℤ whole_rows origin) × Within 47 result }
 {
     image_rows as i64 * k + measures::whole_rows(ThirtySeconds(origin))
 }
@@ -46,7 +46,7 @@ fn above(first_rows: i64, k: i64, slice: i64) -> i64
 // The whole images that strip k lies below the origin's.
 fn wholes(r: Ruler, k: i64) -> i64
     requires { (SoundRuler r) × StripIn r k }
-    ensures { result ≡ wholesOf (driftIn r) k }
+    ensures { result ≡ wholes_of (drift_in r) k }
 {
     let top = top_row(r.image_rows, k, r.origin);
     let rows = top + r.carry as i64 + above(r.first_rows, k, r.slice);
@@ -69,7 +69,7 @@ fn exact(h: u64, start: u64, carry: u64, earlier: u64) -> i64
 
 fn distance(r: Ruler, k: i64, row: u64, ult: i64, earlier: u64) -> i64
     requires { (SoundRuler r) × ((StripIn r k) × ((earlier ≤ 2 ^ 31) × ((row ≤ 65535) × Signed16 ult))) }
-    ensures { result ≡ aheadAt (driftIn r) k row ult earlier 0 }
+    ensures { result ≡ ahead_at (drift_in r) k row ult earlier 0 }
 {
     let near = sampled(row, ult) - exact(r.h, r.start, r.carry, earlier);
     near + (256 * r.image_h) as i64 * wholes(r, k)

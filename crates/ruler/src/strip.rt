@@ -1,13 +1,13 @@
 // The strips that draw, by the passes of a scaled plan: those without a line are passed over.
 ghost use Rattle.std.specs.Prelude.{◌≤◌, ◌≡◌};
-ghost use Rattle.ruler.specs.Drifts.{NextIs, InPlace, idleFrom, drawnFrom};
+ghost use Rattle.ruler.specs.Drifts.{NextIs, InPlace, idle_from, drawn_from};
 
 use crate::types::{Next, Place};
 
 // After a pass without a line.
 fn idle(frame_rows: u64, p: Place) -> Place
     requires { (frame_rows ≤ 536870912) × ((p.count ≤ 1023) × ((1 ≤ p.fuel) × InPlace p)) }
-    ensures { result ≡ idleFrom frame_rows p }
+    ensures { result ≡ idle_from frame_rows p }
 {
     Place {
         fuel: p.fuel - 1,
@@ -38,7 +38,7 @@ pub(crate) fn next_strip(frame_rows: u64, start: Place) -> Next
 // After a strip that draws.
 pub(crate) fn drawn(frame_rows: u64, p: Place, lines: u64) -> Place
     requires { (frame_rows ≤ 536870912) × ((lines ≤ 16383) × ((1 ≤ p.fuel) × InPlace p)) }
-    ensures { result ≡ drawnFrom frame_rows p lines }
+    ensures { result ≡ drawn_from frame_rows p lines }
 {
     Place {
         fuel: p.fuel - 1,

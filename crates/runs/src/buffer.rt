@@ -2,10 +2,10 @@
 ghost use Rattle.std.specs.Prelude.{◌≡◌, true, false, cond, ◌≤◌, length};
 ghost use Rattle.plan.specs.Whole.{plan_of};
 ghost use Rattle.plan.specs.Run.{end_of};
-ghost use Rattle.plan.specs.Steps.{comingOf};
-ghost use Rattle.words.specs.Counts.{zeroCounts};
+ghost use Rattle.plan.specs.Steps.{coming_of};
+ghost use Rattle.words.specs.Counts.{zero_counts};
 ghost use Rattle.giving.specs.Places.{PlacesIn, settled_of};
-ghost use Rattle.planner.specs.Coming.{Sound, coming, requestOf};
+ghost use Rattle.planner.specs.Coming.{Sound, coming, request_of};
 ghost use Rattle.runs.specs.Ran.{RanIs, StepsTo, stride_of};
 
 use giving::Places;
@@ -33,7 +33,7 @@ fn settled(kept: bool, bank: &mut [u64], places: Places, plan: &[u64])
 
 // Steps to the end, or to an entry that has no room. The counts are kept beside the planner's, which the compiler then drops: both would have to stand until it is known that there is room.
 fn steps(start: Planner, bank: &mut [u64], kept: bool, plan: &mut [u64]) -> End
-    requires { (Sound start) × (start.counts ≡ zeroCounts) × (kept ≡ false → 11 ≤ length plan.old) }
+    requires { (Sound start) × (start.counts ≡ zero_counts) × (kept ≡ false → 11 ≤ length plan.old) }
     ensures { StepsTo kept (coming start) plan.old bank.old plan.new bank.new result }
 {
     let stride = stride(kept);
@@ -83,7 +83,7 @@ fn planned(
     plan: &mut [u64],
 ) -> End
     requires { kept ≡ false → 11 ≤ length plan.old }
-    ensures { StepsTo kept (comingOf (plan_of (requestOf object.now opcode scissor mode address))) plan.old bank.old plan.new bank.new result }
+    ensures { StepsTo kept (coming_of (plan_of (request_of object.now opcode scissor mode address))) plan.old bank.old plan.new bank.new result }
 {
     let p = fresh(object, opcode, scissor, mode, address);
     let course = p.course;
@@ -117,7 +117,7 @@ pub fn run(
 
 // The end of the whole plan, which a run with room for all of its entries gives.
 pub fn count(object: &[u8], opcode: u8, scissor: Scissor, mode: u32, address: u64) -> End
-    ensures { result ≡ end_of (plan_of (requestOf object.now opcode scissor mode address)) }
+    ensures { result ≡ end_of (plan_of (request_of object.now opcode scissor mode address)) }
 {
     let mut none = [0u64; 1];
     let mut entry = [0u64; 11];

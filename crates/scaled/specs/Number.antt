@@ -5,10 +5,10 @@ use Rattle.std.proofs.Common.{ap, ◌∙◌, arith, mul-le-mul_left, mul-div_can
 use Rattle.std.specs.Int.Bits.{bit_and}
 use Rattle.std.proofs.lemmas.Nat.{and_mask}
 use Rattle.signed.specs.Diff.{zdiff, zarith, add_is, →eq}
-use Rattle.signed.specs.Floor.{floorDiv, parts}
+use Rattle.signed.specs.Floor.{floor_div, parts}
 
-pub sampled-le : (q scale : ℕ) → scale ≤ 65535 → q * scale / 128 ≤ q * 512
-sampled-le q scale h = omega (arith, mul-le-mul_left q h)
+pub sampled_le : (q scale : ℕ) → scale ≤ 65535 → q * scale / 128 ≤ q * 512
+sampled_le q scale h = omega (arith, mul-le-mul_left q h)
 
 power : (n k : ℕ) → k ≤ n → 2 ^ n / 2 ^ k ≡ 2 ^ (n - k)
 power n k h =
@@ -16,19 +16,19 @@ power n k h =
     ap (λ (i : ℕ). 2 ^ i / 2 ^ k) e ∙ ap (λ (i : ℕ). i / 2 ^ k) (pow-add 2 (n - k) k) ∙ mul-div_cancel (2 ^ (n - k)) (pow_pos k)
 
 -- the units of a 64-bit word are 64 to 512
-pub shift-range : (siz : ℕ) → siz ≤ 3 → (64 ≤ 512 / 2 ^ siz) × (512 / 2 ^ siz ≤ 512)
-shift-range zero h = (lit≤ tt, lit≤ tt)
-shift-range (suc zero) h = (lit≤ tt, lit≤ tt)
-shift-range (suc (suc zero)) h = (lit≤ tt, lit≤ tt)
-shift-range (suc (suc (suc zero))) h = (lit≤ tt, lit≤ tt)
-shift-range (suc (suc (suc (suc n)))) h = absurd (omega arith)
+pub shift_range : (siz : ℕ) → siz ≤ 3 → (64 ≤ 512 / 2 ^ siz) × (512 / 2 ^ siz ≤ 512)
+shift_range zero h = (lit≤ tt, lit≤ tt)
+shift_range (suc zero) h = (lit≤ tt, lit≤ tt)
+shift_range (suc (suc zero)) h = (lit≤ tt, lit≤ tt)
+shift_range (suc (suc (suc zero))) h = (lit≤ tt, lit≤ tt)
+shift_range (suc (suc (suc (suc n)))) h = absurd (omega arith)
 
 -- a mask of the bits below such a word's units
 pub mask_is : (x siz : ℕ) → siz ≤ 3 → bit_and x (512 / 2 ^ siz - 1) ≡ x % (512 / 2 ^ siz)
 mask_is x siz h = rw (power 9 siz (omega arith)) (and_mask x (9 - siz))
 
 -- a frame's greatest extent, by z, what the image gives less one
-pub cleared : (z : ℤ) → neg_ℤ (pos 1) ≤ℤ z → z ≤ℤ pos (2 ^ 26) → (neg_ℤ (pos 4) ≤ℤ (floorDiv z 4 *ℤ pos 4)) × ((floorDiv z 4 *ℤ pos 4) ≤ℤ pos (2 ^ 26))
+pub cleared : (z : ℤ) → neg_ℤ (pos 1) ≤ℤ z → z ≤ℤ pos (2 ^ 26) → (neg_ℤ (pos 4) ≤ℤ (floor_div z 4 *ℤ pos 4)) × ((floor_div z 4 *ℤ pos 4) ≤ℤ pos (2 ^ 26))
 cleared z l h = let p = parts z 4 (lit< tt) in simp zdiff (omega zarith)
 
 pub add_nothing : (z : ℤ) → z ≡ z +ℤ pos 0
@@ -38,6 +38,6 @@ add_nothing z = →eq _ _ (omega (arith, add_is z (pos 0)))
 pub quotient_le : (n x w : ℕ) → x ≤ n * 8 → 8 ≤ w → x / w ≤ n
 quotient_le n x w h k = omega (arith, div-mul-le_self x w, mul-le-mul_left (x / w) k)
 
-pub chosen-le : (t : Bool) {a b n : ℕ} → a ≤ n → b ≤ n → cond t a b ≤ n
-chosen-le true h k = h
-chosen-le false h k = k
+pub chosen_le : (t : Bool) {a b n : ℕ} → a ≤ n → b ≤ n → cond t a b ≤ n
+chosen_le true h k = h
+chosen_le false h k = k

@@ -8,13 +8,13 @@ use Rattle.signed.specs.Diff.{up, zarith}
 use Rattle.object.specs.declared.types.ObjBg.{ObjBg}
 use Rattle.measures.specs.declared.types.Quarters.{Quarters}
 use Rattle.object.specs.declared.types.Scissor.{Scissor}
-use Rattle.measures.specs.Measure.{quarters, thirtySeconds, edge, inImage}
+use Rattle.measures.specs.Measure.{quarters, thirty_seconds, edge, in_image}
 use Rattle.measures.specs.Range.{Below}
 use Rattle.checks.specs.Known.{InRange, PassedScaled}
 use Rattle.plan.specs.declared.types.Clip.{Clip}
 use Rattle.plan.specs.declared.types.Start.{Start}
 use Rattle.plan.specs.declared.types.Scaled.{Scaled}
-use Rattle.plan.specs.Scaled.{clipOf, scaledEmpty, start_of, scaledOf, slicesBad}
+use Rattle.plan.specs.Scaled.{clip_of, scaled_empty, start_of, scaled_of, slices_bad}
 use Rattle.plan.specs.Sound.{SoundScaled}
 
 -- an object that passed the checks, whatever the scissor
@@ -22,20 +22,20 @@ pub record Usable (bg : ObjBg) : Type 0 where
   pub range : InRange bg
   pub siz : bg.image_siz ≤ 3
   pub fmt : bg.image_fmt ≤ 4
-  pub image-w : 1 ≤ quarters bg.image_w
-  pub image-h : 1 ≤ quarters bg.image_h
-  pub scale-w : 1 ≤ bg.scale_w.0
-  pub scale-h : 1 ≤ bg.scale_h.0
+  pub image_w : 1 ≤ quarters bg.image_w
+  pub image_h : 1 ≤ quarters bg.image_h
+  pub scale_w : 1 ≤ bg.scale_w.0
+  pub scale_h : 1 ≤ bg.scale_h.0
 
 pub usable : {bg : ObjBg} {s : Scissor} → PassedScaled bg s → Usable bg
 usable p = record {
   range = p.passed.range;
   siz = p.passed.siz;
   fmt = p.passed.fmt;
-  image-w = p.passed.image-w;
-  image-h = p.passed.image-h;
-  scale-w = p.scale-w;
-  scale-h = p.scale-h;
+  image_w = p.passed.image_w;
+  image_h = p.passed.image_h;
+  scale_w = p.scale_w;
+  scale_h = p.scale_h;
 }
 
 -- a clip that is not empty
@@ -51,14 +51,14 @@ pub record Filled (c : Clip) : Type 0 where
   pub height' : Below 12 c.height.0
 
 pub record ClipIs (bg : ObjBg) (s : Scissor) (c : Clip) : Type 0 where
-  pub is : c ≡ clipOf bg s
-  pub filled : scaledEmpty c ≡ false → Filled c
+  pub is : c ≡ clip_of bg s
+  pub filled : scaled_empty c ≡ false → Filled c
 
 -- a start in an image
 pub record StartIn (bg : ObjBg) (i : Start) : Type 0 where
-  pub image-x : thirtySeconds i.image_x < inImage (quarters bg.image_w)
-  pub image-x' : Below 20 i.image_x.0
-  pub image-y : Below 20 i.image_y.0
+  pub image_x : thirty_seconds i.image_x < in_image (quarters bg.image_w)
+  pub image_x' : Below 20 i.image_x.0
+  pub image_y : Below 20 i.image_y.0
   pub carry : i.carry ≤ 2 ^ 23
   pub wrap : i.wrap ≤ 2 ^ 26
   pub low : neg_ℤ (pos (2 ^ 33)) ≤ℤ i.origin.0
@@ -69,21 +69,21 @@ pub record StartIs (bg : ObjBg) (c : Clip) (i : Start) : Type 0 where
   pub inside : StartIn bg i
 
 pub record ScaledIs (bg : ObjBg) (mode address : ℕ) (c : Clip) (i : Start) (z : Scaled) : Type 0 where
-  pub is : z ≡ scaledOf bg mode address c i
-  pub sound : slicesBad z ≡ false → SoundScaled z
+  pub is : z ≡ scaled_of bg mode address c i
+  pub sound : slices_bad z ≡ false → SoundScaled z
 
 -- what the fields' bits read as
-pub reads-edge : {z : ℤ} → Below 10 z → to_z w32 (of_z w32 z) ≡ z
-reads-edge {z} r = let b : SFits w32 z = omega zarith in to_z-of_z w32 z b
+pub reads_edge : {z : ℤ} → Below 10 z → to_z w32 (of_z w32 z) ≡ z
+reads_edge {z} r = let b : SFits w32 z = omega zarith in to_z-of_z w32 z b
 
 -- edges and extents as numbers
-pub edge-le : {z : ℤ} → Below 10 z → edge z ≤ 4092
-edge-le {z} r = omega zarith
+pub edge_le : {z : ℤ} → Below 10 z → edge z ≤ 4092
+edge_le {z} r = omega zarith
 
-pub extent-le : {z : ℤ} → Below 16 z → up z ≤ 65535
-extent-le {z} r = omega zarith
+pub extent_le : {z : ℤ} → Below 16 z → up z ≤ 65535
+extent_le {z} r = omega zarith
 
 -- a choice of extents
-pub chosen-in : (t : Bool) {a b : Quarters} → Below 16 a.0 → Below 16 b.0 → Below 16 (cond t a b).0
-chosen-in true h k = h
-chosen-in false h k = k
+pub chosen_in : (t : Bool) {a b : Quarters} → Below 16 a.0 → Below 16 b.0 → Below 16 (cond t a b).0
+chosen_in true h k = h
+chosen_in false h k = k

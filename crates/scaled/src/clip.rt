@@ -1,11 +1,11 @@
 // The frame clipped by the scissor.
 ghost use Rattle.std.specs.Prelude.{◌≡◌, ◌+◌, ◌≤◌, ◌^◌, pos, neg_ℤ, ◌≤ℤ◌};
-ghost use Rattle.measures.specs.Measure.{quarters, inQuarters};
+ghost use Rattle.measures.specs.Measure.{quarters, in_quarters};
 ghost use Rattle.measures.specs.Range.{Below, Within};
 ghost use Rattle.checks.specs.Known.{PassedScaled};
-ghost use Rattle.plan.specs.Scaled.{scaledEmpty};
+ghost use Rattle.plan.specs.Scaled.{scaled_empty};
 ghost use Rattle.scaled.specs.Range.{ClipIs};
-ghost use Rattle.scaled.specs.Clip.{greatest, removed, kept, lower, moved, nearCut, farCut, AxisIs, Across, Down};
+ghost use Rattle.scaled.specs.Clip.{greatest, removed, kept, lower, moved, near_cut, far_cut, AxisIs, Across, Down};
 
 use measures::{Quarters, Scale};
 use object::{ObjBg, Scissor};
@@ -23,7 +23,7 @@ pub(crate) struct Axis {
 // The frame's greatest extent: what the image gives at the scale, less one, in whole pixels.
 fn max_of(image: Quarters, scale: Scale) -> Quarters
     requires { (Below 16 image.0) × (1 ≤ scale.0) }
-    ensures value { result ≡ inQuarters (greatest (quarters image) scale.0) }
+    ensures value { result ≡ in_quarters (greatest (quarters image) scale.0) }
     ensures pos_bound { (neg_ℤ (pos 4) ≤ℤ result.0) × (result.0 ≤ℤ pos (2 ^ 26)) }
 {
     let shown = measures::shown_at(image, scale);
@@ -34,7 +34,7 @@ fn max_of(image: Quarters, scale: Scale) -> Quarters
 // What a frame wider than its image loses.
 fn removed_of(frame: Quarters, image: Quarters, scale: Scale) -> Quarters
     requires { (Below 16 frame.0) × ((Below 16 image.0) × (1 ≤ scale.0)) }
-    ensures value { result ≡ inQuarters (pos (removed (quarters frame) (quarters image) scale.0)) }
+    ensures value { result ≡ in_quarters (pos (removed (quarters frame) (quarters image) scale.0)) }
     ensures result_bound { quarters result ≤ quarters frame + 4 }
 {
     let max = max_of(image, scale);
@@ -43,7 +43,7 @@ fn removed_of(frame: Quarters, image: Quarters, scale: Scale) -> Quarters
 
 fn height_of(frame: Quarters, image: Quarters, scale: Scale) -> Quarters
     requires { (Below 16 frame.0) × ((Below 16 image.0) × (1 ≤ scale.0)) }
-    ensures value { result ≡ inQuarters (lower (quarters frame) (quarters image) scale.0) }
+    ensures value { result ≡ in_quarters (lower (quarters frame) (quarters image) scale.0) }
     ensures pos_bound { (neg_ℤ (pos 4) ≤ℤ result.0) × (result.0 ≤ℤ pos 65535) }
 {
     let max = max_of(image, scale);
@@ -53,7 +53,7 @@ fn height_of(frame: Quarters, image: Quarters, scale: Scale) -> Quarters
 // The Rust's `left` and `top`.
 fn near_cut(x: Quarters, ul: Quarters) -> Quarters
     requires { (Below 12 ul.0) × ((neg_ℤ (pos (2 ^ 15)) ≤ℤ x.0) × (x.0 ≤ℤ pos (2 ^ 18))) }
-    ensures value { result ≡ inQuarters (pos (nearCut x.0 (quarters ul))) }
+    ensures value { result ≡ in_quarters (pos (near_cut x.0 (quarters ul))) }
     ensures result_bound { quarters result ≤ 36863 }
 {
     measures::extent(ul.0 - x.0)
@@ -63,7 +63,7 @@ fn near_cut(x: Quarters, ul: Quarters) -> Quarters
 fn far_cut(x: Quarters, extent: Quarters, lr: Quarters) -> Quarters
     requires below { (Below 12 lr.0) × ((neg_ℤ (pos (2 ^ 15)) ≤ℤ x.0) × (x.0 ≤ℤ pos (2 ^ 18))) }
     requires pos_bound { (neg_ℤ (pos 4) ≤ℤ extent.0) × (extent.0 ≤ℤ pos 65535) }
-    ensures value { result ≡ inQuarters (pos (farCut x.0 extent.0 (quarters lr))) }
+    ensures value { result ≡ in_quarters (pos (far_cut x.0 extent.0 (quarters lr))) }
     ensures result_bound { quarters result ≤ 2 ^ 19 }
 {
     measures::extent(extent.0 - lr.0 + x.0)
@@ -91,7 +91,7 @@ fn cut_axis(x: Quarters, extent: Quarters, ul: Quarters, lr: Quarters) -> Axis
 // What a flipped frame loses in width is lost on the left.
 fn x_of(frame_x: Quarters, flip: bool, removed_w: Quarters) -> Quarters
     requires { (Within 15 frame_x.0) × Below 17 removed_w.0 }
-    ensures value { result ≡ inQuarters (moved frame_x.0 flip (quarters removed_w)) }
+    ensures value { result ≡ in_quarters (moved frame_x.0 flip (quarters removed_w)) }
     ensures pos_bound { (neg_ℤ (pos (2 ^ 15)) ≤ℤ result.0) × (result.0 ≤ℤ pos (2 ^ 18)) }
 {
     if flip {
@@ -104,7 +104,7 @@ fn x_of(frame_x: Quarters, flip: bool, removed_w: Quarters) -> Quarters
 fn width_of(frame_w: Quarters, removed_w: Quarters) -> Quarters
     requires below { (Below 16 frame_w.0) × (Below 17 removed_w.0) }
     requires removed_w_bound { quarters removed_w ≤ quarters frame_w + 4 }
-    ensures value { result ≡ inQuarters (kept (quarters frame_w) (quarters removed_w)) }
+    ensures value { result ≡ in_quarters (kept (quarters frame_w) (quarters removed_w)) }
     ensures pos_bound { (neg_ℤ (pos 4) ≤ℤ result.0) × (result.0 ≤ℤ pos 65535) }
 {
     Quarters(frame_w.0 - removed_w.0)
@@ -165,7 +165,7 @@ pub fn clip_of(bg: ObjBg, scissor: Scissor) -> Clip
 }
 
 pub fn clip_empty(c: Clip) -> bool
-    ensures { result ≡ scaledEmpty c }
+    ensures { result ≡ scaled_empty c }
 {
     measures::quarters(c.width) == 0 || measures::quarters(c.height) == 0
 }

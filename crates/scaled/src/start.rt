@@ -1,6 +1,6 @@
 // Where the clipped frame starts in the image.
 ghost use Rattle.std.specs.Prelude.{◌≡◌, ◌+◌, ◌/◌, ◌%◌, ◌≤◌, ◌^◌, pos};
-ghost use Rattle.measures.specs.Measure.{thirtySeconds, quarters, sampledBy, inThirtySeconds};
+ghost use Rattle.measures.specs.Measure.{thirty_seconds, quarters, sampled_by, in_thirty_seconds};
 ghost use Rattle.measures.specs.Range.{Below, Within};
 ghost use Rattle.scaled.specs.Range.{Usable, Filled, StartIs};
 ghost use Rattle.scaled.specs.Strip.{origin_of};
@@ -13,24 +13,24 @@ use plan::{Clip, Start};
 // The image position under the frame's first pixel or line that the scissor leaves.
 fn position_after(first: ThirtySeconds, cut: Quarters, scale: Scale) -> ThirtySeconds
     requires { (Below 16 first.0) × ((Below 16 cut.0) × (scale.0 ≤ 65535)) }
-    ensures value { result ≡ inThirtySeconds (pos (thirtySeconds first + sampledBy (quarters cut) scale.0)) }
-    ensures result_bound { thirtySeconds result ≤ 2 ^ 26 }
+    ensures value { result ≡ in_thirty_seconds (pos (thirty_seconds first + sampled_by (quarters cut) scale.0)) }
+    ensures result_bound { thirty_seconds result ≤ 2 ^ 26 }
 {
     sum(first, measures::sampled_by(cut, scale))
 }
 
 // How often an image's width or height goes into a position.
 fn wraps(at: ThirtySeconds, size: ThirtySeconds) -> u64
-    requires { 1 ≤ thirtySeconds size }
-    ensures { result ≡ thirtySeconds at / thirtySeconds size }
+    requires { 1 ≤ thirty_seconds size }
+    ensures { result ≡ thirty_seconds at / thirty_seconds size }
 {
     measures::thirty_seconds(at) / measures::thirty_seconds(size)
 }
 
 // What is left of the position then.
 fn rest(at: ThirtySeconds, size: ThirtySeconds) -> ThirtySeconds
-    requires { (thirtySeconds at ≤ 2 ^ 40) × (1 ≤ thirtySeconds size) }
-    ensures { result ≡ inThirtySeconds (pos (thirtySeconds at % thirtySeconds size)) }
+    requires { (thirty_seconds at ≤ 2 ^ 40) × (1 ≤ thirty_seconds size) }
+    ensures { result ≡ in_thirty_seconds (pos (thirty_seconds at % thirty_seconds size)) }
 {
     measures::of_thirty_seconds(measures::thirty_seconds(at) % measures::thirty_seconds(size))
 }
@@ -38,7 +38,7 @@ fn rest(at: ThirtySeconds, size: ThirtySeconds) -> ThirtySeconds
 // The origin moves down with the rows that the column carried, and back with the images that the row wrapped.
 fn origin_of(origin: ThirtySeconds, down: ThirtySeconds, back: ThirtySeconds) -> ThirtySeconds
     requires { (Within 31 origin.0) × ((Below 31 down.0) × Below 31 back.0) }
-    ensures { result ≡ inThirtySeconds (origin_of origin.0 (thirtySeconds down) (thirtySeconds back)) }
+    ensures { result ≡ in_thirty_seconds (origin_of origin.0 (thirty_seconds down) (thirty_seconds back)) }
 {
     ThirtySeconds(origin.0 + down.0 - back.0)
 }

@@ -1,10 +1,10 @@
 // The numbers that every strip of a scaled plan has.
 ghost use Rattle.std.specs.Prelude.{◌≡◌, ◌+◌, ◌*◌, ◌/◌, ◌%◌, ◌≤◌, ◌<◌, ◌^◌, pos};
-ghost use Rattle.measures.specs.Measure.{quarters, thirtySeconds, ofRows, sampledBy, inThirtySeconds};
+ghost use Rattle.measures.specs.Measure.{quarters, thirty_seconds, of_rows, sampled_by, in_thirty_seconds};
 ghost use Rattle.measures.specs.Range.{Below};
-ghost use Rattle.plan.specs.Scaled.{slicesBad};
+ghost use Rattle.plan.specs.Scaled.{slices_bad};
 ghost use Rattle.scaled.specs.Range.{Usable, Filled, StartIn, ScaledIs};
-ghost use Rattle.scaled.specs.Strip.{shift_of, maxSlice, line_of, splitOf, sOf, RowsAre, ColumnsAre};
+ghost use Rattle.scaled.specs.Strip.{shift_of, max_slice, line_of, split_of, s_of, RowsAre, ColumnsAre};
 
 use crate::measure::sum;
 use measures::{Quarters, Scale, ThirtySeconds};
@@ -49,16 +49,16 @@ fn shift_of(siz: u8) -> u64
 // The mask keeps what a position has over whole words.
 fn column_of(x: ThirtySeconds, siz: u8) -> ThirtySeconds
     requires { siz ≤ 3 }
-    ensures value { result ≡ inThirtySeconds (pos (thirtySeconds x % shift_of siz)) }
-    ensures result_bound { thirtySeconds result < 512 }
+    ensures value { result ≡ in_thirty_seconds (pos (thirty_seconds x % shift_of siz)) }
+    ensures result_bound { thirty_seconds result < 512 }
 {
     let mask = shift_of(siz) - 1;
     measures::of_thirty_seconds(measures::thirty_seconds(x) & mask)
 }
 
 fn max_slice_of(siz: u8, slice: ThirtySeconds, source_w: ThirtySeconds) -> u64
-    requires { thirtySeconds source_w ≤ 2 ^ 20 }
-    ensures value { result ≡ maxSlice siz (thirtySeconds slice) (thirtySeconds source_w) }
+    requires { thirty_seconds source_w ≤ 2 ^ 20 }
+    ensures value { result ≡ max_slice siz (thirty_seconds slice) (thirty_seconds source_w) }
     ensures upper_bound { result ≤ 2 ^ 20 }
 {
     if siz == 3 {
@@ -74,8 +74,8 @@ fn max_slice_of(siz: u8, slice: ThirtySeconds, source_w: ThirtySeconds) -> u64
 // What a frame width takes of the image, with the column more that a blend reads.
 fn slice_width(width: Quarters, scale: Scale, bilerp: u64) -> ThirtySeconds
     requires { (Below 16 width.0) × ((scale.0 ≤ 65535) × (bilerp ≤ 1)) }
-    ensures value { result ≡ inThirtySeconds (pos (sampledBy (quarters width) scale.0 + ofRows bilerp)) }
-    ensures result_bound { thirtySeconds result ≤ 2 ^ 26 }
+    ensures value { result ≡ in_thirty_seconds (pos (sampled_by (quarters width) scale.0 + of_rows bilerp)) }
+    ensures result_bound { thirty_seconds result ≤ 2 ^ 26 }
 {
     sum(
         measures::sampled_by(width, scale),
@@ -99,15 +99,15 @@ fn line_of(bg: ObjBg, bilerp: u64) -> u64
 
 // A row's bytes in whole words, up to a position.
 fn bytes_of(x: ThirtySeconds, siz: u8) -> u64
-    requires { (thirtySeconds x ≤ 2 ^ 20) × (siz ≤ 3) }
-    ensures { result ≡ thirtySeconds x / shift_of siz * 8 }
+    requires { (thirty_seconds x ≤ 2 ^ 20) × (siz ≤ 3) }
+    ensures { result ≡ thirty_seconds x / shift_of siz * 8 }
 {
     measures::thirty_seconds(x) / shift_of(siz) * 8
 }
 
 // One where a strip's rows run over the image's right side.
 fn split_of(source_w: ThirtySeconds, end: ThirtySeconds) -> u64
-    ensures { result ≡ splitOf (thirtySeconds source_w) (thirtySeconds end) }
+    ensures { result ≡ split_of (thirty_seconds source_w) (thirty_seconds end) }
 {
     if measures::thirty_seconds(source_w) <= measures::thirty_seconds(end) {
         1
@@ -119,7 +119,7 @@ fn split_of(source_w: ThirtySeconds, end: ThirtySeconds) -> u64
 // The texture column of the frame's left side, which in a flipped frame is the image's right.
 fn s_of(flip: bool, column: ThirtySeconds, image_width: ThirtySeconds) -> ThirtySeconds
     requires { (Below 9 column.0) × Below 26 image_width.0 }
-    ensures { result ≡ inThirtySeconds (sOf flip (thirtySeconds column) (thirtySeconds image_width)) }
+    ensures { result ≡ in_thirty_seconds (s_of flip (thirty_seconds column) (thirty_seconds image_width)) }
 {
     if flip {
         ThirtySeconds(-(column.0 + image_width.0))
@@ -207,7 +207,7 @@ pub fn scaled_of(bg: ObjBg, mode: u32, address: u64, c: Clip, i: Start) -> Scale
 
 // No strip fits, or the image has no whole row or no whole word in a row.
 pub fn slices_bad(z: Scaled) -> bool
-    ensures { result ≡ slicesBad z }
+    ensures { result ≡ slices_bad z }
 {
     z.source_rows == 0 || (z.image_rows == 0 || z.stride == 0)
 }

@@ -1,8 +1,8 @@
 // What entries set in the words of a bank that a host lends: an entry by itself, or the last of each kind once a plan is written.
 ghost use Rattle.std.specs.Prelude.{◌≡◌, ◌+◌, ◌≤◌, ◌<◌, length};
 ghost use Rattle.plan.specs.Sound.{Narrow};
-ghost use Rattle.giving.specs.Host.{tileIn, boundsIn, wordsStep};
-ghost use Rattle.giving.specs.Places.{BoundsIn, PlacesIn, tileAt, boundsAt, tileSettled, boundsSettled, settled_of};
+ghost use Rattle.giving.specs.Host.{tile_in, bounds_in, words_step};
+ghost use Rattle.giving.specs.Places.{BoundsIn, PlacesIn, tile_at, bounds_at, tile_settled, bounds_settled, settled_of};
 
 use giving::Places;
 use plan::Entry;
@@ -26,7 +26,7 @@ fn set_tile(
     masks: u64,
     maskt: u64,
 )
-    ensures { bank.new ≡ tileIn bank.old index fmt siz line tmem palette cms cmt masks maskt }
+    ensures { bank.new ≡ tile_in bank.old index fmt siz line tmem palette cms cmt masks maskt }
 {
     if index < (bank.len() / TILE) as u64 {
         let numbers = [fmt, siz, palette, cms, cmt, masks, maskt, 0, 0, line, tmem];
@@ -37,7 +37,7 @@ fn set_tile(
 // Sets a tile's bounds, and the width and height that follow.
 fn set_bounds(bank: &mut [u64], index: u64, uls: u64, ult: u64, lrs: u64, lrt: u64)
     requires { (uls ≤ 65535) × ((ult ≤ 65535) × ((lrs ≤ 65535) × (lrt ≤ 65535))) }
-    ensures { bank.new ≡ boundsIn bank.old index uls ult lrs lrt }
+    ensures { bank.new ≡ bounds_in bank.old index uls ult lrs lrt }
 {
     if index < (bank.len() / TILE) as u64 {
         let width = texels(uls as u16, lrs as u16) as u64;
@@ -48,10 +48,10 @@ fn set_bounds(bank: &mut [u64], index: u64, uls: u64, ult: u64, lrs: u64, lrt: u
 }
 
 // What an entry sets in the bank's words; a load sets its tile's size itself.
-#[tactic(auto, unfolding(giving::specs::Host::wordsStep))]
+#[tactic(auto, unfolding(giving::specs::Host::words_step))]
 pub fn set_words(bank: &mut [u64], e: Entry)
     requires { Narrow e }
-    ensures { bank.new ≡ wordsStep bank.old e }
+    ensures { bank.new ≡ words_step bank.old e }
 {
     match e {
         Entry::Tile {
@@ -97,7 +97,7 @@ pub fn set_words(bank: &mut [u64], e: Entry)
 // Sets a tile by the entry at a place of the plan, behind its kind and its index.
 pub fn tile_at(bank: &mut [u64], index: u64, plan: &[u64], place: usize)
     requires { place + 9 < length plan.now }
-    ensures { bank.new ≡ tileAt bank.old index plan.now place }
+    ensures { bank.new ≡ tile_at bank.old index plan.now place }
 {
     set_tile(
         &mut *bank,
@@ -117,7 +117,7 @@ pub fn tile_at(bank: &mut [u64], index: u64, plan: &[u64], place: usize)
 // Sets a tile's bounds by the size or the load at a place of the plan.
 pub fn bounds_at(bank: &mut [u64], index: u64, plan: &[u64], place: usize)
     requires { BoundsIn plan.now place }
-    ensures { bank.new ≡ boundsAt bank.old index plan.now place }
+    ensures { bank.new ≡ bounds_at bank.old index plan.now place }
 {
     set_bounds(
         &mut *bank,
@@ -132,7 +132,7 @@ pub fn bounds_at(bank: &mut [u64], index: u64, plan: &[u64], place: usize)
 // The same where there is such an entry: 0 is no place.
 fn settle_tile(bank: &mut [u64], index: u64, plan: &[u64], place: usize)
     requires { 1 ≤ place → place + 9 < length plan.now }
-    ensures { bank.new ≡ tileSettled bank.old index plan.now place }
+    ensures { bank.new ≡ tile_settled bank.old index plan.now place }
 {
     if place != 0 {
         tile_at(&mut *bank, index, plan, place);
@@ -142,7 +142,7 @@ fn settle_tile(bank: &mut [u64], index: u64, plan: &[u64], place: usize)
 // Likewise the bounds.
 fn settle_bounds(bank: &mut [u64], index: u64, plan: &[u64], place: usize)
     requires { 1 ≤ place → BoundsIn plan.now place }
-    ensures { bank.new ≡ boundsSettled bank.old index plan.now place }
+    ensures { bank.new ≡ bounds_settled bank.old index plan.now place }
 {
     if place != 0 {
         bounds_at(&mut *bank, index, plan, place);

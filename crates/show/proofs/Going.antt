@@ -16,36 +16,36 @@ use Rattle.planner.specs.declared.types.Given.{Given}
 use Rattle.planner.specs.declared.types.Given.TheVariants as given
 use Rattle.planner.specs.declared.types.Step.{Step}
 use Rattle.planner.specs.Coming.{coming, answer_in, Sound, StepGives}
-use Rattle.planner.specs.Step.{gave-entry, gave-rest, gave-end}
+use Rattle.planner.specs.Step.{gave_entry, gave_rest, gave_end}
 use Rattle.show.specs.declared.text.Chunk as code
-use Rattle.lines.specs.Text.{entryText, endText}
-use Rattle.lines.specs.Lines.{withText, PutIs}
+use Rattle.lines.specs.Text.{entry_text, end_text}
+use Rattle.lines.specs.Lines.{with_text, PutIs}
 use Rattle.show.specs.Chunk.{Chunk, nothing, and_then, chunk_of, chunk, ChunkIs}
-use Rattle.lines.proofs.Texts.{with-nil, with-after}
-use Rattle.lines.proofs.Rows.{entry-most}
+use Rattle.lines.proofs.Texts.{with_nil, with_after}
+use Rattle.lines.proofs.Rows.{entry_most}
 
-abbrev to-come : List Entry → List Entry → End → Coming
-to-come es left e = record { entries = es; left = left; end = e }
+abbrev to_come : List Entry → List Entry → End → Coming
+to_come es left e = record { entries = es; left = left; end = e }
 
 -- ---- the first of what one call writes
 
-chunk-none : (room : ℕ) (es left : List Entry) (e : End) → room < 128 → chunk_of room es left e ≡ nothing (to-come es left e)
+chunk_none : (room : ℕ) (es left : List Entry) (e : End) → room < 128 → chunk_of room es left e ≡ nothing (to_come es left e)
 unfolding chunk_of
-chunk-none room [] left e h = rw (lt-ltb room 128 h)
-chunk-none room (x ∷ es) left e h = rw (lt-ltb room 128 h)
+chunk_none room [] left e h = rw (lt-ltb room 128 h)
+chunk_none room (x ∷ es) left e h = rw (lt-ltb room 128 h)
 
-chunk-entry : (room : ℕ) (x : Entry) (es left : List Entry) (e : End) → 128 ≤ room → chunk_of room (x ∷ es) left e ≡ and_then (entryText x) (chunk_of (room - length (entryText x)) es left e)
+chunk_entry : (room : ℕ) (x : Entry) (es left : List Entry) (e : End) → 128 ≤ room → chunk_of room (x ∷ es) left e ≡ and_then (entry_text x) (chunk_of (room - length (entry_text x)) es left e)
 unfolding chunk_of
-chunk-entry room x es left e h = rw (le-ltb room 128 h)
+chunk_entry room x es left e h = rw (le-ltb room 128 h)
 
-chunk_end : (room : ℕ) (left : List Entry) (e : End) → 128 ≤ room → chunk_of room [] left e ≡ record { text = endText e; rest = next_of [] left e; done = true }
+chunk_end : (room : ℕ) (left : List Entry) (e : End) → 128 ≤ room → chunk_of room [] left e ≡ record { text = end_text e; rest = next_of [] left e; done = true }
 unfolding chunk_of
 chunk_end room left e h = rw (le-ltb room 128 h)
 
 -- ---- a text at the front
 
-front : (out t : List ℕ) → withText out 0 t ≡ t ++ drop (length t) out
-unfolding withText
+front : (out t : List ℕ) → with_text out 0 t ≡ t ++ drop (length t) out
+unfolding with_text
 front out t = let z : 0 + length t ≡ length t = omega arith in ap (λ (n : ℕ). t ++ drop n out) z
 
 -- `text` is written, and what is left is what one call would write into the rest of the bytes
@@ -54,18 +54,18 @@ pub record Going (k : Coming) (out₀ out : List ℕ) (p : Planner) (at : ℕ) :
   pub place : at ≡ length text
   pub fits : at ≤ length out₀
   pub same : length out ≡ length out₀
-  pub stands : out ≡ withText out₀ 0 text
+  pub stands : out ≡ with_text out₀ 0 text
   pub whole : chunk (length out₀) k ≡ and_then text (chunk (length out₀ - at) (coming p))
   pub sound : Sound p
 
 pub going_start : (p : Planner) → Sound p → (out : List ℕ) → Going (coming p) out out p 0
 going_start p h out =
     let z : length out ≡ length out - 0 = omega arith in
-    record { text = []; place = refl; fits = omega arith; same = refl; stands = sym (with-nil out 0); whole = ap (λ (n : ℕ). chunk n (coming p)) z; sound = h }
+    record { text = []; place = refl; fits = omega arith; same = refl; stands = sym (with_nil out 0); whole = ap (λ (n : ℕ). chunk n (coming p)) z; sound = h }
 
 module _ (k : Coming) (out₀ out : List ℕ) (p : Planner) (at : ℕ) (g : Going k out₀ out p at) where
   -- the call ends with this chunk
-  closes : (c : Chunk) → chunk (length out₀) k ≡ c → (out' : List ℕ) (r : code.Chunk) → r.count ≡ length c.text → r.done ≡ c.done → out' ≡ withText out₀ 0 c.text → coming r.planner ≡ c.rest → Sound r.planner → ChunkIs k out₀ out' r
+  closes : (c : Chunk) → chunk (length out₀) k ≡ c → (out' : List ℕ) (r : code.Chunk) → r.count ≡ length c.text → r.done ≡ c.done → out' ≡ with_text out₀ 0 c.text → coming r.planner ≡ c.rest → Sound r.planner → ChunkIs k out₀ out' r
   closes c e out' r n d o m s =
       record {
         count = n ∙ ap (λ (x : Chunk). length x.text) (sym e);
@@ -76,17 +76,17 @@ module _ (k : Coming) (out₀ out : List ℕ) (p : Planner) (at : ℕ) (g : Goin
       }
 
   -- no room for a line
-  pub going-full : length out - at < 128 → ChunkIs k out₀ out (record { planner = p; count = at; done = false })
-  going-full l =
+  pub going_full : length out - at < 128 → ChunkIs k out₀ out (record { planner = p; count = at; done = false })
+  going_full l =
       let few : length out₀ - at < 128 = omega (arith, g.same) in
       closes
       (and_then g.text (nothing (coming p)))
-      (g.whole ∙ ap (and_then g.text) (chunk-none (length out₀ - at) (coming p).entries (coming p).left (coming p).end few))
+      (g.whole ∙ ap (and_then g.text) (chunk_none (length out₀ - at) (coming p).entries (coming p).left (coming p).end few))
       out
       (record { planner = p; count = at; done = false })
       (g.place ∙ ap length (sym (append-nil g.text)))
       refl
-      (g.stands ∙ ap (withText out₀ 0) (sym (append-nil g.text)))
+      (g.stands ∙ ap (with_text out₀ 0) (sym (append-nil g.text)))
       refl
       g.sound
 
@@ -95,41 +95,41 @@ module _ (k : Coming) (out₀ out : List ℕ) (p : Planner) (at : ℕ) (g : Goin
     room = omega (arith, l, g.same)
 
     -- a line after the text
-    after : (t out' : List ℕ) (at' : ℕ) → PutIs out at t out' at' → out' ≡ withText out₀ 0 (g.text ++ t)
+    after : (t out' : List ℕ) (at' : ℕ) → PutIs out at t out' at' → out' ≡ with_text out₀ 0 (g.text ++ t)
     after t out' at' q =
         let z : at ≡ 0 + length g.text = omega (arith, g.place) in
-        q.is ∙ (λ j. withText (g.stands j) (z j) t) ∙ with-after out₀ 0 g.text (omega (arith, g.place, g.fits)) t
+        q.is ∙ (λ j. with_text (g.stands j) (z j) t) ∙ with_after out₀ 0 g.text (omega (arith, g.place, g.fits)) t
 
-    pub going_more : (e : Entry) → s.given ≡ given.Entry e → (out' : List ℕ) (at' : ℕ) → PutIs out at (entryText e) out' at' → length out' ≡ length out → Going k out₀ out' s.planner at'
+    pub going_more : (e : Entry) → s.given ≡ given.Entry e → (out' : List ℕ) (at' : ℕ) → PutIs out at (entry_text e) out' at' → length out' ≡ length out → Going k out₀ out' s.planner at'
     going_more e a out' at' q n =
         let c = coming p in
-        let t = entryText e in
+        let t = entry_text e in
         let m : length out₀ - at - length t ≡ length out₀ - at' = omega (arith, q.next) in
         let first : chunk (length out₀ - at) c ≡ and_then t (chunk (length out₀ - at') (coming s.planner)) =
-        ap (λ (es : List Entry). chunk_of (length out₀ - at) es c.left c.end) (gave-entry p s i e a)
-        ∙ chunk-entry (length out₀ - at) e (drop 1 c.entries) c.left c.end room
-        ∙ (λ j. and_then t (chunk (m j) (sym (gave-rest p s i e a) j))) in
+        ap (λ (es : List Entry). chunk_of (length out₀ - at) es c.left c.end) (gave_entry p s i e a)
+        ∙ chunk_entry (length out₀ - at) e (drop 1 c.entries) c.left c.end room
+        ∙ (λ j. and_then t (chunk (m j) (sym (gave_rest p s i e a) j))) in
         record {
           text = g.text ++ t;
           place = omega (arith, q.next, g.place, length-append g.text t);
-          fits = omega (arith, q.next, room, entry-most e);
+          fits = omega (arith, q.next, room, entry_most e);
           same = n ∙ g.same;
           stands = after t out' at' q;
           whole = g.whole ∙ ap (and_then g.text) first ∙ ap (λ (x : List ℕ). record { text = x; rest = (chunk (length out₀ - at') (coming s.planner)).rest; done = (chunk (length out₀ - at') (coming s.planner)).done }) (sym (append_assoc g.text t (chunk (length out₀ - at') (coming s.planner)).text));
           sound = i.sound;
         }
 
-    pub going_end : (w : Given) → s.given ≡ w → (e : End) → answer_in w ≡ answer.End e → (out' : List ℕ) (at' : ℕ) → PutIs out at (endText e) out' at' → ChunkIs k out₀ out' (record { planner = s.planner; count = at'; done = true })
+    pub going_end : (w : Given) → s.given ≡ w → (e : End) → answer_in w ≡ answer.End e → (out' : List ℕ) (at' : ℕ) → PutIs out at (end_text e) out' at' → ChunkIs k out₀ out' (record { planner = s.planner; count = at'; done = true })
     going_end w a e b out' at' q =
         let c = coming p in
-        let h = gave-end p s i w a e b in
-        let t = endText e in
+        let h = gave_end p s i w a e b in
+        let t = end_text e in
         let whole : chunk (length out₀) k ≡ and_then g.text (record { text = t; rest = next_of [] c.left c.end; done = true }) =
         g.whole
         ∙ ap (and_then g.text) (
         ap (λ (es : List Entry). chunk_of (length out₀ - at) es c.left c.end) h.0
         ∙ chunk_end (length out₀ - at) c.left c.end room
-        ∙ ap (λ (x : End). record { text = endText x; rest = next_of [] c.left c.end; done = true }) (sym h.1.0)) in
+        ∙ ap (λ (x : End). record { text = end_text x; rest = next_of [] c.left c.end; done = true }) (sym h.1.0)) in
         closes
         (and_then g.text (record { text = t; rest = next_of [] c.left c.end; done = true }))
         whole

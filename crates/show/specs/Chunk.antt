@@ -6,7 +6,7 @@ use Rattle.plan.specs.declared.types.End.{End}
 use Rattle.plan.specs.Steps.{Coming, next_of}
 use Rattle.planner.specs.Coming.{coming, Sound}
 use Rattle.show.specs.declared.text.Chunk as code
-use Rattle.lines.specs.Text.{entryText, endText}
+use Rattle.lines.specs.Text.{entry_text, end_text}
 
 -- the bytes written, what is left to come, and whether the end's line is written
 pub record Chunk : Type 0 where
@@ -24,8 +24,8 @@ and_then text c = record { text = text ++ c.text; rest = c.rest; done = c.done }
 
 -- the lines of the next answers, as long as there is room for any line, which has 128 bytes at the most; after the end's there is nothing more
 unfoldable pub chunk_of : (room : ℕ) → List Entry → List Entry → End → Chunk
-chunk_of room [] left e = cond (ltb room 128) (nothing (record { entries = []; left = left; end = e })) (record { text = endText e; rest = next_of [] left e; done = true })
-chunk_of room (x ∷ es) left e = cond (ltb room 128) (nothing (record { entries = x ∷ es; left = left; end = e })) (and_then (entryText x) (chunk_of (room - length (entryText x)) es left e))
+chunk_of room [] left e = cond (ltb room 128) (nothing (record { entries = []; left = left; end = e })) (record { text = end_text e; rest = next_of [] left e; done = true })
+chunk_of room (x ∷ es) left e = cond (ltb room 128) (nothing (record { entries = x ∷ es; left = left; end = e })) (and_then (entry_text x) (chunk_of (room - length (entry_text x)) es left e))
 
 abbrev pub chunk : (room : ℕ) → Coming → Chunk
 chunk room k = chunk_of room k.entries k.left k.end

@@ -6,13 +6,13 @@ use Rattle.std.proofs.lemmas.Bool.{eqb-false}
 use Rattle.std.specs.Int.{w64}
 
 -- a product of two bounded numbers fits 64 bits
-pub fits-mul : (m n : ℕ) {a b : ℕ} → T (ltb (m * n) (2 ^ 64)) → a ≤ m → b ≤ n → Fits w64 (a * b)
-fits-mul m n t h k = record { fits = lt_of_le_of_lt (mul-le-mul h k) (lit< t) }
+pub fits_mul : (m n : ℕ) {a b : ℕ} → T (ltb (m * n) (2 ^ 64)) → a ≤ m → b ≤ n → Fits w64 (a * b)
+fits_mul m n t h k = record { fits = lt_of_le_of_lt (mul-le-mul h k) (lit< t) }
 
 -- neither of two tests holds
-pub or-false : (a b : Bool) → (a || b) ≡ false → (a ≡ false) × (b ≡ false)
-or-false true b e = absurd (true≢false e)
-or-false false b e = (refl, e)
+pub or_false : (a b : Bool) → (a || b) ≡ false → (a ≡ false) × (b ≡ false)
+or_false true b e = absurd (true≢false e)
+or_false false b e = (refl, e)
 
 -- a number that is not 0
 pub some : (n : ℕ) → eqb n 0 ≡ false → 1 ≤ n

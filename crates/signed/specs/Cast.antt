@@ -4,15 +4,15 @@ use Rattle.std.specs.Prelude.{cond, ℕ, ◌^◌, ℤ, pos, ◌*ℤ◌}
 use Rattle.std.specs.Int.Signed.{le_z}
 use Rattle.std.specs.Int.{w16}
 use Rattle.std.proofs.Common.{to_z}
-use Rattle.signed.specs.Floor.{floorDiv, modulo}
+use Rattle.signed.specs.Floor.{floor_div, modulo}
 
 -- the smaller of two
-abbrev pub minZ : ℤ → ℤ → ℤ
-minZ a b = cond (le_z a b) a b
+abbrev pub min_z : ℤ → ℤ → ℤ
+min_z a b = cond (le_z a b) a b
 
 -- D "the masks that clear low bits": z & !(m − 1), for m a power of two
-abbrev pub clearLow : ℤ → ℕ → ℤ
-clearLow z m = floorDiv z m *ℤ pos m
+abbrev pub clear_low : ℤ → ℕ → ℤ
+clear_low z m = floor_div z m *ℤ pos m
 
 -- D "Casts to 16 bits keep the value modulo 2^16": z as u16
 abbrev pub u16 : ℤ → ℕ

@@ -5,7 +5,7 @@ ghost use Rattle.std.specs.Prelude.{◌≡◌, ◌+◌, ◌-◌, ◌%◌, ◌/�
 ghost use Rattle.std.specs.Int.{w16};
 ghost use Rattle.std.proofs.Common.{to_z};
 ghost use Rattle.signed.specs.Diff.{up};
-ghost use Rattle.signed.specs.Floor.{floorDiv, modulo};
+ghost use Rattle.signed.specs.Floor.{floor_div, modulo};
 ghost use Rattle.signed.specs.Cast.{u16, i16, word};
 
 pub fn least(a: u64, b: u64) -> u64
@@ -38,7 +38,7 @@ pub fn positive(z: i64) -> u64
 pub fn floor_div(a: i64, b: u64) -> i64
     requires pos_bound { neg_ℤ (pos (2 ^ 62)) ≤ℤ a }
     requires le_b { (1 ≤ b) × (b ≤ 2 ^ 62) }
-    ensures { result ≡ floorDiv a b }
+    ensures { result ≡ floor_div a b }
 {
     let d = b as i64;
     if a < 0 { (a - (d - 1)) / d } else { a / d }

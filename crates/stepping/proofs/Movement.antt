@@ -7,30 +7,30 @@ use native.Mathlib.Omega.{arith}
 use Rattle.plan.specs.declared.types.Entry.{Entry}
 use Rattle.plan.specs.declared.types.End.{End}
 use Rattle.plan.specs.Steps.{answer_of}
-use Rattle.giving.specs.Host.{wordsAfter}
+use Rattle.giving.specs.Host.{words_after}
 use Rattle.planner.specs.declared.types.Planner.{Planner}
 use Rattle.planner.specs.declared.types.Given.{Given}
 use Rattle.planner.specs.declared.types.Given.TheVariants as given
 use Rattle.planner.specs.declared.types.Step.{Step}
-use Rattle.planner.specs.Coming.{coming, answer_in, leftIn, leftNext, countsNext, StepGives}
-use Rattle.planner.specs.Step.{plannerAt}
-use Rattle.stored.specs.Stored.{storedOf, StoredIs}
-use Rattle.stepping.specs.Host.{answerWords, setsIn, setsNext, Moved}
+use Rattle.planner.specs.Coming.{coming, answer_in, left_in, left_next, counts_next, StepGives}
+use Rattle.planner.specs.Step.{planner_at}
+use Rattle.stored.specs.Stored.{stored_of, StoredIs}
+use Rattle.stepping.specs.Host.{answer_words, sets_in, sets_next, Moved}
 
 -- what sets the bank, in terms of what was to come
-sets-next : (es left : List Entry) (x : End) (g : Given) → answer_in g ≡ answer_of es x → leftIn g ≡ leftNext es left → setsIn g ≡ setsNext es left
-sets-next [] left x (given.Entry e) a l = let z : ◌≡◌ {A = ℕ} 0 1 = cc in absurd (omega arith)
-sets-next [] left x (given.Refused s y) a l = l
-sets-next [] left x (given.End y) a l = l
-sets-next (e ∷ es) left x (given.Entry f) a l = let k : f ≡ e = cc in ap (λ (d : Entry). d ∷ []) k
-sets-next (e ∷ es) left x (given.Refused s y) a l = let z : ◌≡◌ {A = ℕ} 0 1 = cc in absurd (omega arith)
-sets-next (e ∷ es) left x (given.End y) a l = let z : ◌≡◌ {A = ℕ} 0 1 = cc in absurd (omega arith)
+sets_next_lem : (es left : List Entry) (x : End) (g : Given) → answer_in g ≡ answer_of es x → left_in g ≡ left_next es left → sets_in g ≡ sets_next es left
+sets_next_lem [] left x (given.Entry e) a l = let z : ◌≡◌ {A = ℕ} 0 1 = cc in absurd (omega arith)
+sets_next_lem [] left x (given.Refused s y) a l = l
+sets_next_lem [] left x (given.End y) a l = l
+sets_next_lem (e ∷ es) left x (given.Entry f) a l = let k : f ≡ e = cc in ap (λ (d : Entry). d ∷ []) k
+sets_next_lem (e ∷ es) left x (given.Refused s y) a l = let z : ◌≡◌ {A = ℕ} 0 1 = cc in absurd (omega arith)
+sets_next_lem (e ∷ es) left x (given.End y) a l = let z : ◌≡◌ {A = ℕ} 0 1 = cc in absurd (omega arith)
 
-pub moved-is : (p : Planner) (s : Step) → StepGives p s → (bank ws' bank' out' : List ℕ) → StoredIs s.planner ws' → bank' ≡ wordsAfter bank (setsIn s.given) → out' ≡ answerWords (answer_in s.given) → Moved p bank ws' bank' out'
-moved-is p s g bank ws' bank' out' k b o =
+pub moved_is : (p : Planner) (s : Step) → StepGives p s → (bank ws' bank' out' : List ℕ) → StoredIs s.planner ws' → bank' ≡ words_after bank (sets_in s.given) → out' ≡ answer_words (answer_in s.given) → Moved p bank ws' bank' out'
+moved_is p s g bank ws' bank' out' k b o =
     record {
-      out = o ∙ ap answerWords g.answer;
-      set = b ∙ ap (wordsAfter bank) (sets-next (coming p).entries (coming p).left (coming p).end s.given g.answer g.left);
+      out = o ∙ ap answer_words g.answer;
+      set = b ∙ ap (words_after bank) (sets_next_lem (coming p).entries (coming p).left (coming p).end s.given g.answer g.left);
       has = record { planner = s.planner; words = record { stored = k; sound = g.sound }; coming = g.rest };
-      over = λ none. k.is ∙ (λ j. storedOf (plannerAt (g.over none j) ((g.counts ∙ ap (λ (es : List Entry). countsNext es p.counts) none) j)));
+      over = λ none. k.is ∙ (λ j. stored_of (planner_at (g.over none j) ((g.counts ∙ ap (λ (es : List Entry). counts_next es p.counts) none) j)));
     }

@@ -9,10 +9,10 @@
 #![tactic(auto)]
 
 ghost use Rattle.std.specs.Prelude.{◌≡◌, length};
-ghost use Rattle.giving.specs.Host.{wordsAfter};
-ghost use Rattle.planner.specs.Coming.{Sound, answer_in, givenIn};
+ghost use Rattle.giving.specs.Host.{words_after};
+ghost use Rattle.planner.specs.Coming.{Sound, answer_in, GivenIn};
 ghost use Rattle.stored.specs.Stored.{StoredIs};
-ghost use Rattle.stepping.specs.Host.{answerWords, setsIn, Moved, StepIs, StartIs};
+ghost use Rattle.stepping.specs.Host.{answer_words, sets_in, Moved, StepIs, StartIs};
 
 use planner::{Given, Planner};
 use stored::Loaded;
@@ -45,7 +45,7 @@ fn keep(state: &mut [u64], p: Planner)
 }
 
 fn out_words(given: Given) -> [u64; 11]
-    ensures { result ≡ answerWords (answer_in given) }
+    ensures { result ≡ answer_words (answer_in given) }
 {
     match given {
         Given::Entry(entry) => words::entry_words(entry),
@@ -56,17 +56,17 @@ fn out_words(given: Given) -> [u64; 11]
 
 fn answer(out: &mut [u64], given: Given)
     requires { length out.old ≡ 11 }
-    ensures { out.new ≡ answerWords (answer_in given) }
+    ensures { out.new ≡ answer_words (answer_in given) }
 {
     let words = out_words(given);
     put(&mut *out, 0, &words);
 }
 
 // A load that is refused has set its tile's size.
-#[tactic(auto, unfolding(giving::specs::Host::wordsAfter))]
+#[tactic(auto, unfolding(giving::specs::Host::words_after))]
 fn set_bank(bank: &mut [u64], given: Given)
-    requires { givenIn given }
-    ensures { bank.new ≡ wordsAfter bank.old (setsIn given) }
+    requires { GivenIn given }
+    ensures { bank.new ≡ words_after bank.old (sets_in given) }
 {
     match given {
         Given::Entry(entry) => settling::set_words(&mut *bank, entry),

@@ -1,6 +1,6 @@
 // A planner in 39 words and out of them.
 ghost use Rattle.std.specs.Prelude.{◌≡◌};
-ghost use Rattle.stored.specs.Stored.{overWords, StoredIs, loadedIs, verdictFrom, countsFrom, courseFrom, plannerFrom, soundTest};
+ghost use Rattle.stored.specs.Stored.{over_words, StoredIs, LoadedIs, verdict_from, counts_from, course_from, planner_from, sound_test};
 ghost use Rattle.stored.specs.Same.{Same};
 
 use crate::types::Loaded;
@@ -11,9 +11,9 @@ use planner::{Course, Planner};
 use stored_fields::counts_sound;
 use words::Counts;
 
-#[tactic(auto, unfolding(crate::specs::Stored::overWords))]
+#[tactic(auto, unfolding(crate::specs::Stored::over_words))]
 fn over_words(v: Verdict, n: Counts) -> [u64; 39]
-    ensures { result ≡ overWords v n }
+    ensures { result ≡ over_words v n }
 {
     let mut words = [0u64; 39];
     words[1] = n.entries;
@@ -37,7 +37,7 @@ pub fn stored(p: Planner) -> [u64; 39]
 }
 
 fn verdict_from(k: u64) -> Verdict
-    ensures { result ≡ verdictFrom k }
+    ensures { result ≡ verdict_from k }
 {
     match k {
         0 => Verdict::Finished,
@@ -55,7 +55,7 @@ fn verdict_from(k: u64) -> Verdict
 }
 
 fn counts_from(words: &[u64; 39]) -> Counts
-    ensures { result ≡ countsFrom words.now }
+    ensures { result ≡ counts_from words.now }
 {
     Counts {
         entries: words[1],
@@ -66,9 +66,9 @@ fn counts_from(words: &[u64; 39]) -> Counts
 }
 
 // The course of any words; which of them are a planner's is tested apart.
-#[tactic(auto, unfolding(crate::specs::Stored::courseFrom))]
+#[tactic(auto, unfolding(crate::specs::Stored::course_from))]
 fn course_from(words: &[u64; 39]) -> Course
-    ensures { result ≡ courseFrom words.now }
+    ensures { result ≡ course_from words.now }
 {
     let k = words[0];
     if k == 0 {
@@ -88,7 +88,7 @@ fn course_from(words: &[u64; 39]) -> Course
 }
 
 fn planner_from(words: &[u64; 39]) -> Planner
-    ensures { result ≡ plannerFrom words.now }
+    ensures { result ≡ planner_from words.now }
 {
     let course = course_from(words);
     let counts = counts_from(words);
@@ -100,7 +100,7 @@ const ALL: u64 = 5242881;
 
 // Whether the planner of the words is sound, tested before it is made: what a step asks of its numbers, and few enough entries.
 fn sound(words: &[u64; 39]) -> bool
-    ensures { result ≡ soundTest words.now }
+    ensures { result ≡ sound_test words.now }
 {
     let k = words[0];
     let n = counts_from(words);
@@ -142,7 +142,7 @@ fn same(a: [u64; 39], b: [u64; 39]) -> bool
 
 // The planner of any words; nothing where they are no sound planner's. A planner's words are its own: what the test leaves open, such as a word that the course does not use, must be as `stored` would have it.
 pub fn load(words: [u64; 39]) -> Loaded
-    ensures { loadedIs words result }
+    ensures { LoadedIs words result }
 {
     if !sound(&words) {
         return Loaded::Nothing;

@@ -3,8 +3,8 @@
 
 ghost use Rattle.std.specs.Prelude.{◌≡◌};
 ghost use Rattle.copy.specs.Walk.{SoundPlace};
-ghost use Rattle.copy.specs.Kept.{leftCopy};
-ghost use Rattle.stored_copy.specs.Course.{stageWord, copyWords, stageFrom, copyFrom, stripFrom, placeFrom, copyTest, placeTest};
+ghost use Rattle.copy.specs.Kept.{left_copy};
+ghost use Rattle.stored_copy.specs.Course.{stage_word, copy_words, stage_from, copy_from, strip_from, place_from, copy_test, place_test};
 
 use copy::{Due, Place, Stage};
 use measures::{Quarters, quarters};
@@ -14,7 +14,7 @@ use strips::texels_per_word;
 use words::Counts;
 
 fn stage_word(s: Stage) -> u64
-    ensures { result ≡ stageWord s }
+    ensures { result ≡ stage_word s }
 {
     match s {
         Stage::Strip(due) => match due {
@@ -29,9 +29,9 @@ fn stage_word(s: Stage) -> u64
     }
 }
 
-#[tactic(auto, unfolding(crate::specs::Course::copyWords))]
+#[tactic(auto, unfolding(crate::specs::Course::copy_words))]
 pub fn copy_words(stage: Stage, p: Place, n: Counts) -> [u64; 39]
-    ensures { result ≡ copyWords stage p n }
+    ensures { result ≡ copy_words stage p n }
 {
     let c = p.copy;
     let s = p.strip;
@@ -83,7 +83,7 @@ pub fn copy_words(stage: Stage, p: Place, n: Counts) -> [u64; 39]
 }
 
 pub fn stage_from(k: u64) -> Stage
-    ensures { result ≡ stageFrom k }
+    ensures { result ≡ stage_from k }
 {
     match k {
         2 => Stage::Strip(Due::Rect),
@@ -95,9 +95,9 @@ pub fn stage_from(k: u64) -> Stage
     }
 }
 
-#[tactic(auto, unfolding(crate::specs::Course::copyFrom))]
+#[tactic(auto, unfolding(crate::specs::Course::copy_from))]
 pub fn copy_from(words: &[u64; 39]) -> Copy
-    ensures { result ≡ copyFrom words.now }
+    ensures { result ≡ copy_from words.now }
 {
     let left = Quarters(signed_of(words[14]));
     let top = Quarters(signed_of(words[15]));
@@ -123,9 +123,9 @@ pub fn copy_from(words: &[u64; 39]) -> Copy
     }
 }
 
-#[tactic(auto, unfolding(crate::specs::Course::stripFrom))]
+#[tactic(auto, unfolding(crate::specs::Course::strip_from))]
 fn strip_from(words: &[u64; 39]) -> Strip
-    ensures { result ≡ stripFrom words.now }
+    ensures { result ≡ strip_from words.now }
 {
     Strip {
         strip_width: words[27],
@@ -136,9 +136,9 @@ fn strip_from(words: &[u64; 39]) -> Strip
     }
 }
 
-#[tactic(auto, unfolding(crate::specs::Course::placeFrom))]
+#[tactic(auto, unfolding(crate::specs::Course::place_from))]
 pub fn place_from(words: &[u64; 39]) -> Place
-    ensures { result ≡ placeFrom words.now }
+    ensures { result ≡ place_from words.now }
 {
     let copy = copy_from(words);
     let strip = strip_from(words);
@@ -152,9 +152,9 @@ pub fn place_from(words: &[u64; 39]) -> Place
     }
 }
 
-#[tactic(auto, unfolding(crate::specs::Course::copyTest))]
+#[tactic(auto, unfolding(crate::specs::Course::copy_test))]
 pub fn copy_sound(words: &[u64; 39]) -> bool
-    ensures { result ≡ copyTest words.now }
+    ensures { result ≡ copy_test words.now }
 {
     let siz = words[6];
     if 3 < siz {
@@ -183,9 +183,9 @@ pub fn copy_sound(words: &[u64; 39]) -> bool
         & (words[21] <= 512)
 }
 
-#[tactic(auto, unfolding(crate::specs::Course::placeTest))]
+#[tactic(auto, unfolding(crate::specs::Course::place_test))]
 pub fn place_sound(words: &[u64; 39]) -> bool
-    ensures { result ≡ placeTest words.now }
+    ensures { result ≡ place_test words.now }
 {
     copy_sound(words)
         & ((words[23] < words[16])
@@ -205,7 +205,7 @@ pub fn place_sound(words: &[u64; 39]) -> bool
 // The entries that are still to come, at the most.
 pub fn copy_left(stage: Stage, p: Place) -> u64
     requires { SoundPlace p }
-    ensures { result ≡ leftCopy stage p }
+    ensures { result ≡ left_copy stage p }
 {
     let rows = 1024 * (1024 - p.y);
     let cells = 5 * (rows - p.x);

@@ -14,42 +14,42 @@ use lib.Signed.{◌≤ℤ◌}
 use mir.Syntax.{w64}
 use mir.Val.{SFits, to_z}
 use mir.ValLaws.{to_z-of_z, to_z_pos}
-use Rattle.signed.specs.Diff.{up, dn, zdiff, zarith, ge-dn}
+use Rattle.signed.specs.Diff.{up, dn, zdiff, zarith, ge_dn}
 use Rattle.signed.specs.Cast.{word}
-use Rattle.signed.specs.Word.{bits-modulo}
+use Rattle.signed.specs.Word.{bits_modulo}
 use Rattle.measures.specs.Range.{Below, counted}
-use Rattle.stored_fields.specs.Test.{all_of, countsTest}
+use Rattle.stored_fields.specs.Test.{all_of, counts_test}
 
 abbrev pub Holds : Bool → List Bool → Type 0
 Holds t [] = t ≡ true
 Holds t (u ∷ us) = (t ≡ true) × Holds u us
 
-pub all-false : (us : List Bool) → all_of false us ≡ false
-all-false [] = refl
-all-false (u ∷ us) = all-false us
+pub all_false : (us : List Bool) → all_of false us ≡ false
+all_false [] = refl
+all_false (u ∷ us) = all_false us
 
 pub all_yes : (t : Bool) (us : List Bool) → all_of t us ≡ true → Holds t us
 all_yes t [] h = h
 all_yes true (u ∷ us) h = (refl, all_yes u us h)
-all_yes false (u ∷ us) h = absurd (true≢false (sym h ∙ all-false us))
+all_yes false (u ∷ us) h = absurd (true≢false (sym h ∙ all_false us))
 
-pub all-no : (t : Bool) (us : List Bool) → Holds t us → all_of t us ≡ true
-all-no t [] h = h
-all-no t (u ∷ us) h = rw h.0 (all-no u us h.1)
+pub all_no : (t : Bool) (us : List Bool) → Holds t us → all_of t us ≡ true
+all_no t [] h = h
+all_no t (u ∷ us) h = rw h.0 (all_no u us h.1)
 
 pub both : (a b : Bool) → (a && b) ≡ true → (a ≡ true) × (b ≡ true)
 both a b h = all_yes a (b ∷ []) h
 
 pub each : (a b : Bool) → a ≡ true → b ≡ true → (a && b) ≡ true
-each a b h k = all-no a (b ∷ []) (h, k)
+each a b h k = all_no a (b ∷ []) (h, k)
 
 pub or_left : (a b : Bool) → (a || b) ≡ true → a ≡ false → b ≡ true
 or_left true b h e = absurd (true≢false e)
 or_left false b h e = h
 
 -- two numbers together are no more than m, tested with no sum
-pub room-is : (a b m : ℕ) → a ≤ m → leb b (m - a) ≡ leb (a + b) m
-room-is a b m h = by (leb b (m - a)) refl
+pub room_is : (a b m : ℕ) → a ≤ m → leb b (m - a) ≡ leb (a + b) m
+room_is a b m h = by (leb b (m - a)) refl
   where
     by : (t : Bool) → leb b (m - a) ≡ t → t ≡ leb (a + b) m
     by true e = sym (le-leb (a + b) m (omega (arith, leb-true b (m - a) e)))
@@ -59,54 +59,54 @@ pub record FewCounts (n : Counts) (left : ℕ) : Type 0 where
   pub counts : Countable n
   pub few : n.entries + left ≤ 2 ^ 40
 
-pub counts-yes : (n : Counts) (left : ℕ) → countsTest n left ≡ true → FewCounts n left
-counts-yes n left t =
+pub counts_yes : (n : Counts) (left : ℕ) → counts_test n left ≡ true → FewCounts n left
+counts_yes n left t =
     let h = all_yes (leb (n.entries + left) (2 ^ 40)) (leb n.rectangles n.entries ∷ leb n.line 65535 ∷ []) t in
     let f : n.entries + left ≤ 2 ^ 40 = leb-true _ _ h.0 in
     record { counts = record { entries = omega arith; rectangles = leb-true _ _ h.1.0; line = leb-true _ _ h.1.1 }; few = f }
 
-pub counts-no : (n : Counts) (left : ℕ) → Countable n → n.entries + left ≤ 2 ^ 40 → countsTest n left ≡ true
-counts-no n left h f = all-no (leb (n.entries + left) (2 ^ 40)) (leb n.rectangles n.entries ∷ leb n.line 65535 ∷ []) (le-leb _ _ f, (le-leb _ _ h.rectangles, le-leb _ _ h.line))
+pub counts_no : (n : Counts) (left : ℕ) → Countable n → n.entries + left ≤ 2 ^ 40 → counts_test n left ≡ true
+counts_no n left h f = all_no (leb (n.entries + left) (2 ^ 40)) (leb n.rectangles n.entries ∷ leb n.line 65535 ∷ []) (le-leb _ _ f, (le-leb _ _ h.rectangles, le-leb _ _ h.line))
 
 -- it comes back out of its word
 pub word_back : (z : ℤ) → SFits w64 z → to_z w64 (word z) ≡ z
-word_back z f = ap (to_z w64) (sym (bits-modulo w64 z f)) ∙ to_z-of_z w64 z f
+word_back z f = ap (to_z w64) (sym (bits_modulo w64 z f)) ∙ to_z-of_z w64 z f
 
 -- and one that is not negative out of its number
-pub up-back : {k : ℕ} {z : ℤ} → 2 ^ k ≤ 2 ^ 63 → Below k z → to_z w64 (up z) ≡ z
-up-back {k} {z} p b = let h = b.high in to_z_pos w64 (up z) (omega zarith) ∙ counted b.low
+pub up_back : {k : ℕ} {z : ℤ} → 2 ^ k ≤ 2 ^ 63 → Below k z → to_z w64 (up z) ≡ z
+up_back {k} {z} p b = let h = b.high in to_z_pos w64 (up z) (omega zarith) ∙ counted b.low
 
 -- a small word is such a number
-pub small-below : (k n : ℕ) → 2 ^ k ≤ 2 ^ 63 → n ≤ 2 ^ k - 1 → Below k (to_z w64 n)
-small-below k n p h = rw (to_z_pos w64 n (omega arith)) (record { low = omega zarith; high = omega zarith })
+pub small_below : (k n : ℕ) → 2 ^ k ≤ 2 ^ 63 → n ≤ 2 ^ k - 1 → Below k (to_z w64 n)
+small_below k n p h = rw (to_z_pos w64 n (omega arith)) (record { low = omega zarith; high = omega zarith })
 
-pub below-small : {k : ℕ} {z : ℤ} → Below k z → up z ≤ 2 ^ k - 1
-below-small {k} {z} b = let h = b.high in omega zarith
+pub below_small : {k : ℕ} {z : ℤ} → Below k z → up z ≤ 2 ^ k - 1
+below_small {k} {z} b = let h = b.high in omega zarith
 
 -- ---- bounds
 
-pub le-at : (z : ℤ) (n : ℕ) → up z ≤ n → z ≤ℤ pos n
-le-at z n h = omega zarith
+pub le_at : (z : ℤ) (n : ℕ) → up z ≤ n → z ≤ℤ pos n
+le_at z n h = omega zarith
 
-pub ge-at : (z : ℤ) (n : ℕ) → dn z ≤ n → neg_ℤ (pos n) ≤ℤ z
-ge-at z n h = simp zdiff (omega zarith)
+pub ge_at : (z : ℤ) (n : ℕ) → dn z ≤ n → neg_ℤ (pos n) ≤ℤ z
+ge_at z n h = simp zdiff (omega zarith)
 
-pub at-le : (z : ℤ) (n : ℕ) → z ≤ℤ pos n → up z ≤ n
-at-le z n h = omega zarith
+pub at_le : (z : ℤ) (n : ℕ) → z ≤ℤ pos n → up z ≤ n
+at_le z n h = omega zarith
 
-pub at-ge : (z : ℤ) (n : ℕ) → neg_ℤ (pos n) ≤ℤ z → dn z ≤ n
-at-ge (pos m) n h = omega arith
-at-ge (negsuc m) n h = let k = simp zdiff at h in omega zarith
+pub at_ge : (z : ℤ) (n : ℕ) → neg_ℤ (pos n) ≤ℤ z → dn z ≤ n
+at_ge (pos m) n h = omega arith
+at_ge (negsuc m) n h = let k = simp zdiff at h in omega zarith
 
-pub not-below : (z : ℤ) → dn z ≤ 0 → pos 0 ≤ℤ z
-not-below z h = omega zarith
+pub not_below : (z : ℤ) → dn z ≤ 0 → pos 0 ≤ℤ z
+not_below z h = omega zarith
 
-pub below-not : (z : ℤ) → pos 0 ≤ℤ z → dn z ≤ 0
-below-not z h = omega (arith, ge-dn z 0 h)
+pub below_not : (z : ℤ) → pos 0 ≤ℤ z → dn z ≤ 0
+below_not z h = omega (arith, ge_dn z 0 h)
 
 pub same_parts : (a b : ℤ) → up a ≡ up b → dn a ≡ dn b → a ≡ b
 same_parts a b h k = omega zarith
 
-pub some-dn : (z : ℤ) → 1 ≤ up z → dn z ≡ 0
-some-dn (pos n) h = refl
-some-dn (negsuc n) h = absurd (omega arith)
+pub some_dn : (z : ℤ) → 1 ≤ up z → dn z ≡ 0
+some_dn (pos n) h = refl
+some_dn (negsuc n) h = absurd (omega arith)

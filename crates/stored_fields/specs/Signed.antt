@@ -4,9 +4,9 @@ use Rattle.std.specs.Prelude.{Bool, cond, List, ℕ, ℤ, get_or}
 use Rattle.std.specs.Int.{w64}
 use Rattle.std.proofs.Common.{to_z}
 
-abbrev pub flagWord : Bool → ℕ
-flagWord t = cond t 1 0
+abbrev pub flag_word : Bool → ℕ
+flag_word t = cond t 1 0
 
 -- the signed number at a place
-abbrev pub signedAt : List ℕ → ℕ → ℤ
-signedAt ws i = to_z w64 (get_or ws i 0)
+abbrev pub signed_at : List ℕ → ℕ → ℤ
+signed_at ws i = to_z w64 (get_or ws i 0)

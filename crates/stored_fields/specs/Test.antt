@@ -8,5 +8,5 @@ all_of t [] = t
 all_of t (u ∷ us) = all_of (t && u) us
 
 -- counts that go with a course that has at most so many entries to come
-abbrev pub countsTest : Counts → ℕ → Bool
-countsTest n left = all_of (leb (n.entries + left) (2 ^ 40)) (leb n.rectangles n.entries ∷ leb n.line 65535 ∷ [])
+abbrev pub counts_test : Counts → ℕ → Bool
+counts_test n left = all_of (leb (n.entries + left) (2 ^ 40)) (leb n.rectangles n.entries ∷ leb n.line 65535 ∷ [])

@@ -5,13 +5,13 @@ ghost use Rattle.std.specs.Prelude.{◌≡◌, ◌+◌, leb};
 ghost use Rattle.std.specs.Int.{w64};
 ghost use Rattle.std.proofs.Common.{to_z};
 ghost use Rattle.signed.specs.Diff.{up, dn};
-ghost use Rattle.stored_fields.specs.Signed.{flagWord};
-ghost use Rattle.stored_fields.specs.Test.{countsTest};
+ghost use Rattle.stored_fields.specs.Signed.{flag_word};
+ghost use Rattle.stored_fields.specs.Test.{counts_test};
 
 use words::Counts;
 
 pub fn flag_word(t: bool) -> u64
-    ensures { result ≡ flagWord t }
+    ensures { result ≡ flag_word t }
 {
     if t { 1 } else { 0 }
 }
@@ -55,7 +55,7 @@ pub fn room(a: u64, b: u64, m: u64) -> bool
 
 // Counts that go with a course that has at most `left` entries to come.
 pub fn counts_sound(n: Counts, left: u64) -> bool
-    ensures { result ≡ countsTest n left }
+    ensures { result ≡ counts_test n left }
 {
     room(n.entries, left, 0x100_0000_0000) & (n.rectangles <= n.entries) & (n.line <= 65535)
 }

@@ -3,9 +3,9 @@
 
 ghost use Rattle.std.specs.Prelude.{◌≡◌, ◌^◌, ◌≤◌, get_or};
 ghost use Rattle.signed.specs.Diff.{up};
-ghost use Rattle.loads.specs.Sound.{left_at, afterPiece};
-ghost use Rattle.stored_fields.specs.Signed.{signedAt};
-ghost use Rattle.stored_scaled.specs.Course.{stageWord, pieceWord, scaledWords, FitsPlace, stageFrom, pieceFrom, scaledFrom, walkFrom, placeFrom, scaledTest, walkTest, wholeTest, passTest, pieceTest, rectTest, at_start, atPass, atPiece, atRect, stageTest};
+ghost use Rattle.loads.specs.Sound.{left_at, after_piece};
+ghost use Rattle.stored_fields.specs.Signed.{signed_at};
+ghost use Rattle.stored_scaled.specs.Course.{stage_word, piece_word, scaled_words, FitsPlace, stage_from, piece_from, scaled_from, walk_from, place_from, scaled_test, walk_test, whole_test, pass_test, piece_test, rect_test, at_start, at_pass, at_piece, at_rect, stage_test};
 
 use loads::{Part, Piece, Place, Stage};
 use measures::{Quarters, Scale, ThirtySeconds, quarters, thirty_seconds};
@@ -15,7 +15,7 @@ use stored_fields::{above, below, room, signed_of};
 use words::Counts;
 
 fn stage_word(s: Stage) -> u64
-    ensures { result ≡ stageWord s }
+    ensures { result ≡ stage_word s }
 {
     match s {
         Stage::First => 8,
@@ -32,7 +32,7 @@ fn stage_word(s: Stage) -> u64
 }
 
 fn piece_word(s: Piece) -> u64
-    ensures { result ≡ pieceWord s }
+    ensures { result ≡ piece_word s }
 {
     match s {
         Piece::Start => 0,
@@ -44,7 +44,7 @@ fn piece_word(s: Piece) -> u64
 }
 
 pub fn scaled_words(stage: Stage, p: Place, n: Counts) -> [u64; 39]
-    ensures { (result ≡ scaledWords stage p n) × FitsPlace p }
+    ensures { (result ≡ scaled_words stage p n) × FitsPlace p }
 {
     let z = p.scaled;
     let w = p.walk;
@@ -112,7 +112,7 @@ pub fn scaled_words(stage: Stage, p: Place, n: Counts) -> [u64; 39]
 }
 
 pub fn stage_from(k: u64) -> Stage
-    ensures { result ≡ stageFrom k }
+    ensures { result ≡ stage_from k }
 {
     match k {
         8 => Stage::First,
@@ -129,7 +129,7 @@ pub fn stage_from(k: u64) -> Stage
 }
 
 fn piece_from(k: u64) -> Piece
-    ensures { result ≡ pieceFrom k }
+    ensures { result ≡ piece_from k }
 {
     match k {
         0 => Piece::Start,
@@ -141,7 +141,7 @@ fn piece_from(k: u64) -> Piece
 }
 
 fn scaled_from(words: &[u64; 39]) -> Scaled
-    ensures { result ≡ scaledFrom words.now }
+    ensures { result ≡ scaled_from words.now }
 {
     let x = Quarters(signed_of(words[9]));
     let x_end = Quarters(signed_of(words[10]));
@@ -170,7 +170,7 @@ fn scaled_from(words: &[u64; 39]) -> Scaled
 }
 
 fn walk_from(words: &[u64; 39]) -> Walk
-    ensures { result ≡ walkFrom words.now }
+    ensures { result ≡ walk_from words.now }
 {
     let frame_remain = signed_of(words[23]);
     let count = signed_of(words[24]);
@@ -192,7 +192,7 @@ fn walk_from(words: &[u64; 39]) -> Walk
 }
 
 pub fn place_from(words: &[u64; 39]) -> Place
-    ensures { result ≡ placeFrom words.now }
+    ensures { result ≡ place_from words.now }
 {
     let scaled = scaled_from(words);
     let walk = walk_from(words);
@@ -225,9 +225,9 @@ pub fn place_from(words: &[u64; 39]) -> Place
 }
 
 // What no pass changes, and the walk's part of a row.
-#[tactic(auto, unfolding(crate::specs::Course::scaledTest))]
+#[tactic(auto, unfolding(crate::specs::Course::scaled_test))]
 fn scaled_sound(words: &[u64; 39]) -> bool
-    ensures { result ≡ scaledTest words.now }
+    ensures { result ≡ scaled_test words.now }
 {
     (words[5] <= 255)
         & (words[6] <= 3)
@@ -254,7 +254,7 @@ fn scaled_sound(words: &[u64; 39]) -> bool
 }
 
 fn walk_sound(words: &[u64; 39]) -> bool
-    ensures { result ≡ walkTest (walkFrom words.now) }
+    ensures { result ≡ walk_test (walk_from words.now) }
 {
     let lines = above(words[23]);
     let count = above(words[24]);
@@ -279,14 +279,14 @@ fn walk_sound(words: &[u64; 39]) -> bool
 
 // The rows are those of the walk where another pass follows.
 fn whole_sound(words: &[u64; 39]) -> bool
-    ensures { result ≡ wholeTest (placeFrom words.now) }
+    ensures { result ≡ whole_test (place_from words.now) }
 {
     (above(words[23]) <= above(words[24]) / 1024)
         | ((above(words[29]) == above(words[25])) & (below(words[29]) == below(words[25])))
 }
 
 fn pass_sound(words: &[u64; 39]) -> bool
-    ensures { result ≡ passTest (placeFrom words.now) }
+    ensures { result ≡ pass_test (place_from words.now) }
 {
     let lines = above(words[23]);
     let draw = above(words[24]) / 1024;
@@ -299,7 +299,7 @@ fn pass_sound(words: &[u64; 39]) -> bool
 }
 
 fn piece_sound(words: &[u64; 39]) -> bool
-    ensures { result ≡ pieceTest (placeFrom words.now).part }
+    ensures { result ≡ piece_test (place_from words.now).part }
 {
     (below(words[32]) <= 0x8000_0000_0000)
         & (above(words[32]) <= 0x7fff_ffff_ffff)
@@ -308,8 +308,8 @@ fn piece_sound(words: &[u64; 39]) -> bool
 }
 
 fn rect_sound(words: &[u64; 39]) -> bool
-    requires { (up (signedAt words.now 23) ≤ 1023) × (get_or words.now 18 0 ≤ 2 ^ 29) }
-    ensures { result ≡ rectTest (placeFrom words.now) }
+    requires { (up (signed_at words.now 23) ≤ 1023) × (get_or words.now 18 0 ≤ 2 ^ 29) }
+    ensures { result ≡ rect_test (place_from words.now) }
 {
     let lines = above(words[23]);
     let count = above(words[24]);
@@ -330,19 +330,19 @@ fn at_start(words: &[u64; 39]) -> bool
 }
 
 fn at_pass(words: &[u64; 39]) -> bool
-    ensures { result ≡ atPass words.now }
+    ensures { result ≡ at_pass words.now }
 {
     at_start(words) & pass_sound(words)
 }
 
 fn at_piece(words: &[u64; 39]) -> bool
-    ensures { result ≡ atPiece words.now }
+    ensures { result ≡ at_piece words.now }
 {
     at_pass(words) & piece_sound(words)
 }
 
 fn at_rect(words: &[u64; 39]) -> bool
-    ensures { result ≡ atRect words.now }
+    ensures { result ≡ at_rect words.now }
 {
     if !at_pass(words) {
         return false;
@@ -352,7 +352,7 @@ fn at_rect(words: &[u64; 39]) -> bool
 
 // What a step asks of the place, by its stage.
 pub fn stage_sound(stage: Stage, words: &[u64; 39]) -> bool
-    ensures { result ≡ stageTest stage words.now }
+    ensures { result ≡ stage_test stage words.now }
 {
     match stage {
         Stage::First => at_start(words),
@@ -369,7 +369,7 @@ pub fn stage_sound(stage: Stage, words: &[u64; 39]) -> bool
 }
 
 fn after_piece(piece: Piece) -> u64
-    ensures { (result ≡ afterPiece piece) × (result ≤ 13) }
+    ensures { (result ≡ after_piece piece) × (result ≤ 13) }
 {
     match piece {
         Piece::Start => 13,
@@ -381,10 +381,10 @@ fn after_piece(piece: Piece) -> u64
 }
 
 // The entries that are still to come, at the most.
-#[tactic(auto, unfolding(crate::specs::Course::placeFrom, crate::specs::Course::walkFrom))]
+#[tactic(auto, unfolding(crate::specs::Course::place_from, crate::specs::Course::walk_from))]
 pub fn scaled_left(stage: Stage, words: &[u64; 39]) -> u64
-    requires { up (signedAt words.now 23) ≤ 1023 }
-    ensures { result ≡ left_at stage (placeFrom words.now) }
+    requires { up (signed_at words.now 23) ≤ 1023 }
+    ensures { result ≡ left_at stage (place_from words.now) }
 {
     let lines = above(words[23]);
     let all = 14 * lines;

@@ -2,10 +2,10 @@
 -- Assumes nothing.
 use Rattle.std.specs.Prelude.{◌≡◌, refl, Bool, true, false, cond, ℕ, zero, suc, ◌+◌, ◌-◌, ◌*◌, ◌/◌, ◌%◌, ◌^◌, ◌≤◌, ◌<◌, min, eqb}
 use Rattle.std.proofs.Common.{arith, div-add-mod', mod-lt}
-use Rattle.signed.specs.Floor.{modulo, modulo-lt}
+use Rattle.signed.specs.Floor.{modulo, modulo_lt}
 use Rattle.plan.specs.declared.types.Copy.{Copy}
 use Rattle.plan.specs.declared.types.Strip.{Strip}
-use Rattle.plan.specs.Copy.{column, stripOf, stripRow, stripHeight}
+use Rattle.plan.specs.Copy.{column, strip_of, strip_row_of, strip_height_of}
 use Rattle.plan.specs.Sound.{SoundCopy}
 
 -- r is x, and below m
@@ -27,12 +27,12 @@ abbrev pub left_of : Copy → (sx width : ℕ) → ℕ
 left_of c sx width = cond c.flip (sx + 1 - width) sx
 
 -- R 484, D "The left column is rounded down to 16, 8, 4 or 2 texels"
-abbrev pub alignedOf : Copy → ℕ → ℕ
-alignedOf c n = n / c.texels_per_word * c.texels_per_word
+abbrev pub aligned_of : Copy → ℕ → ℕ
+aligned_of c n = n / c.texels_per_word * c.texels_per_word
 
 -- r is n rounded down, and less than a word's texels before it
 pub record Aligned (c : Copy) (n r : ℕ) : Type 0 where
-  pub is : r ≡ alignedOf c n
+  pub is : r ≡ aligned_of c n
   pub most : r ≤ n
   pub near : n ≤ r + 15
 
@@ -52,7 +52,7 @@ pub record Bounds (c : Copy) (x : ℕ) (s : Strip) : Type 0 where
 
 -- s is the strip at cell x, with its bounds
 pub record StripIs (c : Copy) (x : ℕ) (s : Strip) : Type 0 where
-  pub is : s ≡ stripOf c x
+  pub is : s ≡ strip_of c x
   pub bounds : Bounds c x s
 
 -- what holds of the height h of the strips at line y and image row sy
@@ -62,54 +62,54 @@ pub record Rows (c : Copy) (y sy h : ℕ) : Type 0 where
   pub below : sy + h ≤ c.image_height
 
 pub record HeightIs (c : Copy) (y sy h : ℕ) : Type 0 where
-  pub is : h ≡ stripHeight c y
+  pub is : h ≡ strip_height_of c y
   pub rows : Rows c y sy h
 
 -- ---- laws
 
 -- 16, 8, 4 or 2
-texels-in : (siz : ℕ) → siz ≤ 3 → (2 ≤ 16 / 2 ^ siz) × (16 / 2 ^ siz ≤ 16)
-texels-in zero h = omega arith
-texels-in (suc zero) h = omega arith
-texels-in (suc (suc zero)) h = omega arith
-texels-in (suc (suc (suc zero))) h = omega arith
-texels-in (suc (suc (suc (suc n)))) h = absurd (omega arith)
+texels_in : (siz : ℕ) → siz ≤ 3 → (2 ≤ 16 / 2 ^ siz) × (16 / 2 ^ siz ≤ 16)
+texels_in zero h = omega arith
+texels_in (suc zero) h = omega arith
+texels_in (suc (suc zero)) h = omega arith
+texels_in (suc (suc (suc zero))) h = omega arith
+texels_in (suc (suc (suc (suc n)))) h = absurd (omega arith)
 
-pub texels-bounds : (c : Copy) → SoundCopy c → (2 ≤ c.texels_per_word) × (c.texels_per_word ≤ 16)
-texels-bounds c s = rw s.texels-per-word (texels-in c.siz s.siz)
+pub texels_bounds : (c : Copy) → SoundCopy c → (2 ≤ c.texels_per_word) × (c.texels_per_word ≤ 16)
+texels_bounds c s = rw s.texels_per_word (texels_in c.siz s.siz)
 
-pub aligned-is : (c : Copy) (n : ℕ) → SoundCopy c → Aligned c n (alignedOf c n)
-aligned-is c n s =
-    let t = texels-bounds c s in
+pub aligned_is : (c : Copy) (n : ℕ) → SoundCopy c → Aligned c n (aligned_of c n)
+aligned_is c n s =
+    let t = texels_bounds c s in
     let d = div-add-mod' n c.texels_per_word in
     let m : n % c.texels_per_word < c.texels_per_word = mod-lt n (omega arith) in
     record { is = refl; most = omega arith; near = omega arith }
 
-pub column-is : (c : Copy) (x : ℕ) → SoundCopy c → {r : ℕ} → r ≡ modulo (column c x) c.image_width → Less (modulo (column c x) c.image_width) c.image_width r
-column-is c x s e = record { is = e; below = rw e (modulo-lt (column c x) s.image-width) }
+pub column_is : (c : Copy) (x : ℕ) → SoundCopy c → {r : ℕ} → r ≡ modulo (column c x) c.image_width → Less (modulo (column c x) c.image_width) c.image_width r
+column_is c x s e = record { is = e; below = rw e (modulo_lt (column c x) s.image_width) }
 
 -- the cells of a strip, whichever way it runs
-width-in : (flip : Bool) (columns sx width x : ℕ) → sx < columns → x < width →
+width_in : (flip : Bool) (columns sx width x : ℕ) → sx < columns → x < width →
     (1 ≤ min (width - x) (cond flip (sx + 1) (columns - sx)))
     × (x + min (width - x) (cond flip (sx + 1) (columns - sx)) ≤ width)
     × (cond flip (sx + 1 - min (width - x) (cond flip (sx + 1) (columns - sx))) sx + min (width - x) (cond flip (sx + 1) (columns - sx)) ≤ columns)
-width-in true columns sx width x h k = omega arith
-width-in false columns sx width x h k = omega arith
+width_in true columns sx width x h k = omega arith
+width_in false columns sx width x h k = omega arith
 
-line-in : (siz load : ℕ) → siz ≤ 3 → line_of siz load ≤ load + 1
-line-in zero load h = omega arith
-line-in (suc zero) load h = omega arith
-line-in (suc (suc zero)) load h = omega arith
-line-in (suc (suc (suc zero))) load h = omega arith
-line-in (suc (suc (suc (suc n)))) load h = absurd (omega arith)
+line_in : (siz load : ℕ) → siz ≤ 3 → line_of siz load ≤ load + 1
+line_in zero load h = omega arith
+line_in (suc zero) load h = omega arith
+line_in (suc (suc zero)) load h = omega arith
+line_in (suc (suc (suc zero))) load h = omega arith
+line_in (suc (suc (suc (suc n)))) load h = absurd (omega arith)
 
-pub strip-bounds : (c : Copy) (x : ℕ) → SoundCopy c → x < c.width → Bounds c x (stripOf c x)
-unfolding stripOf
-strip-bounds c x s h =
+pub strip_bounds : (c : Copy) (x : ℕ) → SoundCopy c → x < c.width → Bounds c x (strip_of c x)
+unfolding strip_of
+strip_bounds c x s h =
     let sx = modulo (column c x) c.image_width in
-    let w = width-in c.flip c.image_width sx c.width x (modulo-lt (column c x) s.image-width) h in
-    let a = aligned-is c (left_of c sx (width_of c x sx)) s in
-    let l = line-in c.siz (left_of c sx (width_of c x sx) - alignedOf c (left_of c sx (width_of c x sx)) + width_of c x sx) s.siz in
+    let w = width_in c.flip c.image_width sx c.width x (modulo_lt (column c x) s.image_width) h in
+    let a = aligned_is c (left_of c sx (width_of c x sx)) s in
+    let l = line_in c.siz (left_of c sx (width_of c x sx) - aligned_of c (left_of c sx (width_of c x sx)) + width_of c x sx) s.siz in
     record {
       width = omega arith;
       width' = omega arith;
@@ -120,11 +120,11 @@ strip-bounds c x s h =
       line = omega arith;
     }
 
-pub strip-is : (c : Copy) (x : ℕ) → SoundCopy c → x < c.width → {s : Strip} → s ≡ stripOf c x → StripIs c x s
-strip-is c x h l {s} e = record { is = e; bounds = rw e (strip-bounds c x h l) }
+pub strip_is : (c : Copy) (x : ℕ) → SoundCopy c → x < c.width → {s : Strip} → s ≡ strip_of c x → StripIs c x s
+strip_is c x h l {s} e = record { is = e; bounds = rw e (strip_bounds c x h l) }
 
-pub row_in : (c : Copy) (y : ℕ) → SoundCopy c → stripRow c y < c.image_height
-row_in c y s = mod-lt (c.source_y + y) s.image-height
+pub row_in : (c : Copy) (y : ℕ) → SoundCopy c → strip_row_of c y < c.image_height
+row_in c y s = mod-lt (c.source_y + y) s.image_height
 
-pub height-in : (c : Copy) (y : ℕ) → SoundCopy c → y < c.height → Rows c y (stripRow c y) (stripHeight c y)
-height-in c y s h = let r = row_in c y s in record { height = omega arith; height' = omega arith; below = omega arith }
+pub height_in : (c : Copy) (y : ℕ) → SoundCopy c → y < c.height → Rows c y (strip_row_of c y) (strip_height_of c y)
+height_in c y s h = let r = row_in c y s in record { height = omega arith; height' = omega arith; below = omega arith }

@@ -1,11 +1,11 @@
 // The frame of a copy plan: clipped by the scissor, in cells of 4 quarters, and where it starts in the image.
 ghost use Rattle.std.specs.Prelude.{◌≡◌, ◌/◌, ◌^◌, ◌≤◌, max, pos, ◌+ℤ◌, ◌-ℤ◌};
 ghost use Rattle.signed.specs.Diff.{up};
-ghost use Rattle.signed.specs.Cast.{minZ};
-ghost use Rattle.measures.specs.Measure.{quarters, texels, edge, inQuarters};
+ghost use Rattle.signed.specs.Cast.{min_z};
+ghost use Rattle.measures.specs.Measure.{quarters, texels, edge, in_quarters};
 ghost use Rattle.measures.specs.Range.{Below, Within};
 ghost use Rattle.checks.specs.Known.{PassedCopy};
-ghost use Rattle.plan.specs.Copy.{copyEmpty};
+ghost use Rattle.plan.specs.Copy.{copy_empty};
 ghost use Rattle.strips.specs.Frame.{AtMost, AxisIs, CopyIs};
 
 use measures::Quarters;
@@ -23,7 +23,7 @@ pub struct Axis {
 // The frame's near edge: its own, or the scissor's.
 fn near(frame: Quarters, low: Quarters) -> Quarters
     requires { (Within 15 frame.0) × Below 12 low.0 }
-    ensures { (result ≡ inQuarters (pos (max (quarters frame) (quarters low)))) × Below 15 result.0 }
+    ensures { (result ≡ in_quarters (pos (max (quarters frame) (quarters low)))) × Below 15 result.0 }
 {
     if frame.0 <= low.0 { low } else { frame }
 }
@@ -32,7 +32,7 @@ fn near(frame: Quarters, low: Quarters) -> Quarters
 fn cells_in(frame: Quarters, size: Quarters, high: Quarters, near: Quarters) -> u64
     requires within { (Within 15 frame.0) × Below 16 size.0 }
     requires below { (Below 12 high.0) × Below 15 near.0 }
-    ensures { result ≡ texels (up (minZ (frame.0 +ℤ size.0) high.0 -ℤ near.0)) }
+    ensures { result ≡ texels (up (min_z (frame.0 +ℤ size.0) high.0 -ℤ near.0)) }
 {
     let end = frame.0 + size.0;
     if end <= high.0 {
@@ -115,7 +115,7 @@ pub fn copy_of(bg: ObjBg, scissor: Scissor, address: u64) -> Copy
 
 // No cell of the frame lies inside the scissor.
 pub fn copy_empty(c: Copy) -> bool
-    ensures { result ≡ copyEmpty c }
+    ensures { result ≡ copy_empty c }
 {
     c.width == 0 || c.height == 0
 }

@@ -1,7 +1,7 @@
 // One strip of a copy plan: its columns in the image, and its rows.
 ghost use Rattle.std.specs.Prelude.{◌≡◌, cond, ◌+◌, ◌-◌, ◌≤◌, ◌<◌};
 ghost use Rattle.signed.specs.Floor.{modulo};
-ghost use Rattle.plan.specs.Copy.{column, stripRow};
+ghost use Rattle.plan.specs.Copy.{column, strip_row_of};
 ghost use Rattle.plan.specs.Sound.{SoundCopy};
 ghost use Rattle.strips.specs.Strip.{Less, Room, Aligned, width_of, left_of, line_of, StripIs, HeightIs};
 
@@ -104,7 +104,7 @@ pub fn strip_of(c: Copy, x: u64) -> Strip
 pub fn strip_row(c: Copy, y: u64) -> u64
     requires sound_copy { SoundCopy c }
     requires y_lt_height { y < c.height }
-    ensures { Less (stripRow c y) c.image_height result }
+    ensures { Less (strip_row_of c y) c.image_height result }
 {
     (c.source_y + y) % c.image_height
 }
@@ -113,7 +113,7 @@ pub fn strip_row(c: Copy, y: u64) -> u64
 pub fn strip_height(c: Copy, y: u64, sy: u64) -> u64
     requires sound_copy { SoundCopy c }
     requires y_lt_height { y < c.height }
-    requires less { Less (stripRow c y) c.image_height sy }
+    requires less { Less (strip_row_of c y) c.image_height sy }
     ensures { HeightIs c y sy result }
 {
     signed::least(signed::least(c.rows, c.height - y), c.image_height - sy)

@@ -1,6 +1,6 @@
 // The tile bank: two setters by value, over each a thin one that is lent the bank, and an owner's call of that.
 ghost use Rattle.std.specs.Prelude.{◌≡◌};
-ghost use Rattle.tile.specs.Bank.{replaced as replacedBy, resized as resizedTo, setTile, setSize, extent};
+ghost use Rattle.tile.specs.Bank.{replaced as replaced_by, resized as resized_to, set_tile, set_size, extent};
 
 // `TileDescriptor` of the Rust, in its order.
 #[derive(Clone, Copy)]
@@ -31,7 +31,7 @@ pub struct Bank {
 
 // A tile set anew: its bounds, width and height stay.
 fn replaced(old: Tile, tile: Tile) -> Tile
-    ensures { result ≡ replacedBy old tile }
+    ensures { result ≡ replaced_by old tile }
 {
     Tile {
         uls: old.uls,
@@ -56,7 +56,7 @@ fn replaced(old: Tile, tile: Tile) -> Tile
 
 // Sets a tile; there is none from 8 on, and nothing is set.
 fn with_tile(bank: Bank, index: usize, tile: Tile) -> Bank
-    ensures { result ≡ setTile bank index tile }
+    ensures { result ≡ set_tile bank index tile }
 {
     if 8 <= index {
         return bank;
@@ -75,7 +75,7 @@ pub fn texels(low: u16, high: u16) -> u16
 
 // A tile with other bounds, and the width and height that follow.
 fn resized(old: Tile, uls: u16, ult: u16, lrs: u16, lrt: u16) -> Tile
-    ensures { result ≡ resizedTo old uls ult lrs lrt }
+    ensures { result ≡ resized_to old uls ult lrs lrt }
 {
     let mut tile = old;
     tile.uls = uls;
@@ -89,7 +89,7 @@ fn resized(old: Tile, uls: u16, ult: u16, lrs: u16, lrt: u16) -> Tile
 
 // Sets a tile's bounds; nothing where there is no such tile.
 fn with_tile_size(bank: Bank, index: usize, uls: u16, ult: u16, lrs: u16, lrt: u16) -> Bank
-    ensures { result ≡ setSize bank index uls ult lrs lrt }
+    ensures { result ≡ set_size bank index uls ult lrs lrt }
 {
     if 8 <= index {
         return bank;
@@ -100,13 +100,13 @@ fn with_tile_size(bank: Bank, index: usize, uls: u16, ult: u16, lrs: u16, lrt: u
 }
 
 pub fn set_tile(bank: &mut Bank, index: usize, tile: Tile)
-    ensures { bank.new ≡ setTile bank.old index tile }
+    ensures { bank.new ≡ set_tile bank.old index tile }
 {
     *bank = with_tile(*bank, index, tile);
 }
 
 pub fn set_tile_size(bank: &mut Bank, index: usize, uls: u16, ult: u16, lrs: u16, lrt: u16)
-    ensures { bank.new ≡ setSize bank.old index uls ult lrs lrt }
+    ensures { bank.new ≡ set_size bank.old index uls ult lrs lrt }
 {
     *bank = with_tile_size(*bank, index, uls, ult, lrs, lrt);
 }
@@ -114,7 +114,7 @@ pub fn set_tile_size(bank: &mut Bank, index: usize, uls: u16, ult: u16, lrs: u16
 // An owner's bank after it was lent to a setter.
 
 pub fn tile_set(bank: Bank, index: usize, tile: Tile) -> Bank
-    ensures { result ≡ setTile bank index tile }
+    ensures { result ≡ set_tile bank index tile }
 {
     let mut next = bank;
     set_tile(&mut next, index, tile);
@@ -122,7 +122,7 @@ pub fn tile_set(bank: Bank, index: usize, tile: Tile) -> Bank
 }
 
 pub fn size_set(bank: Bank, index: usize, uls: u16, ult: u16, lrs: u16, lrt: u16) -> Bank
-    ensures { result ≡ setSize bank index uls ult lrs lrt }
+    ensures { result ≡ set_size bank index uls ult lrs lrt }
 {
     let mut next = bank;
     set_tile_size(&mut next, index, uls, ult, lrs, lrt);

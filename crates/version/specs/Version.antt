@@ -2,5 +2,5 @@
 -- Assumes nothing.
 use Rattle.std.specs.Prelude.{ℕ, ◌+◌, ◌*◌}
 
-abbrev pub versionOf : (major minor patch : ℕ) → ℕ
-versionOf major minor patch = major * 65536 + minor * 256 + patch
+abbrev pub version_of : (major minor patch : ℕ) → ℕ
+version_of major minor patch = major * 65536 + minor * 256 + patch

@@ -2,7 +2,7 @@
 #![tactic(auto)]
 
 ghost use Rattle.std.specs.Prelude.{◌≡◌};
-ghost use Rattle.version.specs.Version.{versionOf};
+ghost use Rattle.version.specs.Version.{version_of};
 
 const MAJOR: u64 = 0;
 
@@ -11,7 +11,7 @@ const MINOR: u64 = 5;
 const PATCH: u64 = 0;
 
 pub fn number() -> u64
-    ensures { result ≡ versionOf 0 5 0 }
+    ensures { result ≡ version_of 0 5 0 }
 {
     MAJOR * 65536 + MINOR * 256 + PATCH
 }

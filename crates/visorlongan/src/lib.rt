@@ -10,9 +10,9 @@
 #![tactic(auto)]
 
 ghost use Rattle.std.specs.Prelude.{◌≡◌};
-ghost use Rattle.visorlongan.specs.Host.{left, hostRun, counted, hostCount, hostApply};
+ghost use Rattle.visorlongan.specs.Host.{left, host_run, counted, host_count, host_apply};
 ghost use Rattle.applying.specs.Applied.{applied};
-ghost use Rattle.version.specs.Version.{versionOf};
+ghost use Rattle.version.specs.Version.{version_of};
 
 const REQUEST: usize = 7;
 
@@ -30,7 +30,7 @@ pub fn visor_run(
     plan: &mut [u64],
     end: &mut [u64],
 ) -> u64
-    ensures { left result bank.new plan.new end.new ≡ hostRun object.now request.now bank.old plan.old end.old }
+    ensures { left result bank.new plan.new end.new ≡ host_run object.now request.now bank.old plan.old end.old }
 {
     if request.len() != REQUEST {
         return 1;
@@ -51,7 +51,7 @@ pub fn visor_run(
 
 // The end of the whole plan, with no buffer: how large a buffer `visor_run` wants is eleven words for each of its entries.
 pub fn visor_count(object: &[u8], request: &[u64], end: &mut [u64]) -> u64
-    ensures { counted result end.new ≡ hostCount object.now request.now end.old }
+    ensures { counted result end.new ≡ host_count object.now request.now end.old }
 {
     if request.len() != REQUEST {
         return 1;
@@ -67,7 +67,7 @@ pub fn visor_count(object: &[u8], request: &[u64], end: &mut [u64]) -> u64
 
 // What one entry of a plan sets of the tiles. A host that follows a plan entry by entry has the bank of each of them by this.
 pub fn visor_apply(entry: &[u64], bank: &mut [u64]) -> u64
-    ensures { applied result bank.new ≡ hostApply entry.now bank.old }
+    ensures { applied result bank.new ≡ host_apply entry.now bank.old }
 {
     if entry.len() != ENTRY {
         return 1;
@@ -80,7 +80,7 @@ pub fn visor_apply(entry: &[u64], bank: &mut [u64]) -> u64
 
 // The library's version, by which a host sees that its header and its archive belong together.
 pub fn visor_version() -> u64
-    ensures { result ≡ versionOf 0 5 0 }
+    ensures { result ≡ version_of 0 5 0 }
 {
     version::number()
 }

@@ -1,12 +1,12 @@
 // The entries of a pass: tiles, texture image, load and rectangle.
 ghost use Rattle.std.specs.Prelude.{◌≡◌, cond, ◌/◌, ◌≤◌, ◌^◌, eqb, pos, ◌-ℤ◌};
 ghost use Rattle.signed.specs.Cast.{u16, i16};
-ghost use Rattle.measures.specs.Measure.{quarters, ofTexels};
+ghost use Rattle.measures.specs.Measure.{quarters, of_texels};
 ghost use Rattle.measures.specs.Range.{Below, Within};
 ghost use Rattle.plan.specs.Sound.{SoundScaled};
-ghost use Rattle.plan.specs.Scaled.{tile7 as tile7Of, lrsOf, lrtOf, rectOf};
-ghost use Rattle.loads.specs.Coming.{tile0 as tile0Of, image_of, rowsOut};
-ghost use Rattle.loads.specs.Sound.{SoundPass, SoundPart, loadedOut};
+ghost use Rattle.plan.specs.Scaled.{tile7 as tile7_of, lrs_of, lrt_of, rect_of};
+ghost use Rattle.loads.specs.Coming.{tile0 as tile0_of, image_of, rows_out};
+ghost use Rattle.loads.specs.Sound.{SoundPass, SoundPart, loaded_out};
 
 use load_tile::LoadRequest;
 use loads::{Loaded, Part, Place};
@@ -21,7 +21,7 @@ fn load_size(siz: u64) -> u64
 }
 
 pub fn tile7(z: Scaled, destination: i64) -> Entry
-    ensures { result ≡ tile7Of z destination }
+    ensures { result ≡ tile7_of z destination }
 {
     Entry::Tile {
         index: 7,
@@ -38,7 +38,7 @@ pub fn tile7(z: Scaled, destination: i64) -> Entry
 }
 
 pub fn tile0(z: Scaled) -> Entry
-    ensures { result ≡ tile0Of z }
+    ensures { result ≡ tile0_of z }
 {
     Entry::Tile {
         index: 0,
@@ -77,7 +77,7 @@ pub fn image(z: Scaled, pointer: u64) -> Entry
 // A load's right bound.
 fn right(width: i64) -> u16
     requires { Within 47 width }
-    ensures { result ≡ lrsOf width }
+    ensures { result ≡ lrs_of width }
 {
     let q = measures::of_words(width - 1);
     signed::low16(q.0)
@@ -86,7 +86,7 @@ fn right(width: i64) -> u16
 // A load's lower bound; with 32 bits a load has one row.
 fn lower(z: Scaled, rows: i64) -> u16
     requires { Within 47 rows }
-    ensures { result ≡ lrtOf z rows }
+    ensures { result ≡ lrt_of z rows }
 {
     if z.siz == 3 {
         return 0;
@@ -99,7 +99,7 @@ fn lower(z: Scaled, rows: i64) -> u16
 pub fn load(z: Scaled, q: Part) -> Loaded
     requires sound_scaled { SoundScaled z }
     requires sound_part { SoundPart q }
-    ensures { loadedOut result ≡ rowsOut z q }
+    ensures { loaded_out result ≡ rows_out z q }
 {
     let lrs = right(q.width);
     let lrt = lower(z, q.rows);
@@ -152,7 +152,7 @@ fn position(q: Quarters) -> u64
 // Where a line of the frame lies.
 fn line_at(line: u64) -> u64
     requires { line ≤ 2 ^ 40 }
-    ensures { result ≡ ofTexels line }
+    ensures { result ≡ of_texels line }
 {
     position(measures::of_texels(line as i64))
 }
@@ -160,7 +160,7 @@ fn line_at(line: u64) -> u64
 // The rectangle of a pass, with the image row before its loads.
 pub fn rect(p: Place) -> Entry
     requires { SoundPass p }
-    ensures { result ≡ rectOf p.scaled p.walk p.lines }
+    ensures { result ≡ rect_of p.scaled p.walk p.lines }
 {
     let z = p.scaled;
     let w = p.walk;

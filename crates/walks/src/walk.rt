@@ -2,11 +2,11 @@
 ghost use Rattle.std.specs.Prelude.{◌≡◌, ◌+◌, ◌*◌, ◌≤◌, ◌<◌, ◌^◌, pos, ◌≤ℤ◌};
 ghost use Rattle.signed.specs.Diff.{up};
 ghost use Rattle.measures.specs.Range.{Within};
-ghost use Rattle.plan.specs.Out.{planOut};
+ghost use Rattle.plan.specs.Out.{plan_out};
 ghost use Rattle.plan.specs.Sound.{SoundScaled};
-ghost use Rattle.plan.specs.Scaled.{drawOf, nextPass, afterDraw};
-ghost use Rattle.loads.specs.Coming.{passesOf};
-ghost use Rattle.loads.specs.Sound.{SoundWalk, SoundRect, Runs, Begins, cutLines, cutRows, dueLines};
+ghost use Rattle.plan.specs.Scaled.{draw_of, next_pass, after_draw};
+ghost use Rattle.loads.specs.Coming.{passes_of};
+ghost use Rattle.loads.specs.Sound.{SoundWalk, SoundRect, Runs, Begins, cut_lines, cut_rows, due_lines};
 
 use loads::{Begun, Moved, Piece, Place, advance, forward, less, plus, sum, times};
 use measures::ThirtySeconds;
@@ -16,7 +16,7 @@ use plan::{Scaled, Source, Walk};
 // The whole lines that the count has come to.
 fn lines_due(count: i64) -> u64
     requires { count ≤ℤ pos (2 ^ 31) }
-    ensures { (result ≡ dueLines count) × (result ≤ 2 ^ 21) }
+    ensures { (result ≡ due_lines count) × (result ≤ 2 ^ 21) }
 {
     signed::positive(measures::signed_whole(count))
 }
@@ -25,7 +25,7 @@ fn lines_due(count: i64) -> u64
 fn next_walk(z: Scaled, y: u64, left: i64, count: i64, source: Source) -> Walk
     requires sound_scaled { SoundScaled z }
     requires within { Within 61 count }
-    ensures { result ≡ nextPass z y left count source }
+    ensures { result ≡ next_pass z y left count source }
 {
     let count = plus(count, z.frame_rows);
     let rows = z.image_rows as i64;
@@ -43,7 +43,7 @@ fn next_walk(z: Scaled, y: u64, left: i64, count: i64, source: Source) -> Walk
 // The lines of a pass, fewer at the frame's end.
 fn cut_lines(draw: u64, left: i64) -> u64
     requires { (draw ≤ 2 ^ 21) × Within 40 left }
-    ensures { result ≡ cutLines draw left }
+    ensures { result ≡ cut_lines draw left }
 {
     if left < 0 {
         signed::positive(plus(left, draw))
@@ -56,7 +56,7 @@ fn cut_lines(draw: u64, left: i64) -> u64
 fn cut_rows(z: Scaled, rows: i64, left: i64) -> i64
     requires sound_scaled { SoundScaled z }
     requires within { (Within 43 rows) × Within 40 left }
-    ensures { result ≡ cutRows z rows left }
+    ensures { result ≡ cut_rows z rows left }
 {
     if left < 0 {
         let over = measures::signed_whole(times(left, z.scale_h.0));
@@ -71,8 +71,8 @@ fn cut_rows(z: Scaled, rows: i64, left: i64) -> i64
 // A pass that draws, with nothing of its load given.
 fn draw(w: Walk, p: Place) -> Begun
     requires runs { Runs p.scaled w }
-    requires bound { 1 ≤ drawOf w }
-    ensures { Begins (planOut (passesOf p.scaled w)) (14 * up w.frame_remain) result }
+    requires bound { 1 ≤ draw_of w }
+    ensures { Begins (plan_out (passes_of p.scaled w)) (14 * up w.frame_remain) result }
 {
     let draw = lines_due(w.count);
     let left = less(w.frame_remain, draw);
@@ -88,7 +88,7 @@ fn draw(w: Walk, p: Place) -> Begun
 // The next pass that draws, from a walk with lines left. Only the first strip may have fewer rows than the others, or less than none.
 fn running(walk: Walk, p: Place) -> Begun
     requires { Runs p.scaled walk }
-    ensures { Begins (planOut (passesOf p.scaled walk)) (14 * up walk.frame_remain) result }
+    ensures { Begins (plan_out (passes_of p.scaled walk)) (14 * up walk.frame_remain) result }
 {
     if lines_due(walk.count) != 0 {
         return draw(walk, p);
@@ -112,7 +112,7 @@ fn running(walk: Walk, p: Place) -> Begun
 pub fn next_pass(w: Walk, p: Place) -> Begun
     requires sound_scaled { SoundScaled p.scaled }
     requires sound_walk { pos 1 ≤ℤ w.frame_remain → SoundWalk w }
-    ensures { Begins (planOut (passesOf p.scaled w)) (14 * up w.frame_remain) result }
+    ensures { Begins (plan_out (passes_of p.scaled w)) (14 * up w.frame_remain) result }
 {
     let remain = w.frame_remain;
     if remain <= 0 {
@@ -124,7 +124,7 @@ pub fn next_pass(w: Walk, p: Place) -> Begun
 // The walk after a pass that has drawn.
 pub fn drawn(p: Place) -> Walk
     requires { SoundRect p }
-    ensures { result ≡ afterDraw p.scaled p.walk (drawOf p.walk) p.lines p.next }
+    ensures { result ≡ after_draw p.scaled p.walk (draw_of p.walk) p.lines p.next }
 {
     let w = p.walk;
     let draw = lines_due(w.count);

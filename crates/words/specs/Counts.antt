@@ -7,28 +7,28 @@ use Rattle.plan.specs.declared.types.Entry.{Entry}
 use Rattle.plan.specs.declared.types.Entry.TheVariants as entry
 use Rattle.plan.specs.declared.types.End.{End}
 use Rattle.plan.specs.Out.{Plan}
-use Rattle.plan.specs.Run.{rectangles, wordsFrom, end_of}
-use Rattle.plan.specs.Sound.{entryLine}
+use Rattle.plan.specs.Run.{rectangles, words_from, end_of}
+use Rattle.plan.specs.Sound.{entry_line}
 use Rattle.words.specs.declared.count.Counts.{Counts}
 
-abbrev pub zeroCounts : Counts
-zeroCounts = record { entries = 0; rectangles = 0; words = 0; line = 0 }
+abbrev pub zero_counts : Counts
+zero_counts = record { entries = 0; rectangles = 0; words = 0; line = 0 }
 
 -- D "Tile words are the largest rows × line of any single load given, 0 if none; .. line is tile 7's at that load"
-unfoldable pub countedOf : Counts → Entry → Counts
-countedOf n (entry.Image fmt siz width address) = record { entries = n.entries + 1; rectangles = n.rectangles; words = n.words; line = n.line }
-countedOf n (entry.Tile i fmt siz line tmem palette cms cmt masks maskt) = record { entries = n.entries + 1; rectangles = n.rectangles; words = n.words; line = cond (eqb i 7) line n.line }
-countedOf n (entry.Size i uls ult lrs lrt) = record { entries = n.entries + 1; rectangles = n.rectangles; words = n.words; line = n.line }
-countedOf n (entry.Load i uls ult lrs lrt words rows stride start len) = record { entries = n.entries + 1; rectangles = n.rectangles; words = max n.words (rows * n.line); line = n.line }
-countedOf n (entry.Rect i ulx uly lrx lry uls ult dsdx dtdy row) = record { entries = n.entries + 1; rectangles = n.rectangles + 1; words = n.words; line = n.line }
+unfoldable pub counted_of : Counts → Entry → Counts
+counted_of n (entry.Image fmt siz width address) = record { entries = n.entries + 1; rectangles = n.rectangles; words = n.words; line = n.line }
+counted_of n (entry.Tile i fmt siz line tmem palette cms cmt masks maskt) = record { entries = n.entries + 1; rectangles = n.rectangles; words = n.words; line = cond (eqb i 7) line n.line }
+counted_of n (entry.Size i uls ult lrs lrt) = record { entries = n.entries + 1; rectangles = n.rectangles; words = n.words; line = n.line }
+counted_of n (entry.Load i uls ult lrs lrt words rows stride start len) = record { entries = n.entries + 1; rectangles = n.rectangles; words = max n.words (rows * n.line); line = n.line }
+counted_of n (entry.Rect i ulx uly lrx lry uls ult dsdx dtdy row) = record { entries = n.entries + 1; rectangles = n.rectangles + 1; words = n.words; line = n.line }
 
-unfoldable pub countedAll : Counts → List Entry → Counts
-countedAll n [] = n
-countedAll n (e ∷ es) = countedAll (countedOf n e) es
+unfoldable pub counted_all : Counts → List Entry → Counts
+counted_all n [] = n
+counted_all n (e ∷ es) = counted_all (counted_of n e) es
 
 -- the end of a plan with these counts
-abbrev pub endWith : Counts → Verdict → End
-endWith n v = record { verdict = v; entries = n.entries; rectangles = n.rectangles; words = n.words }
+abbrev pub end_with : Counts → Verdict → End
+end_with n v = record { verdict = v; entries = n.entries; rectangles = n.rectangles; words = n.words }
 
 -- counts that no sum or product takes past 2^64 at the next entry
 pub record Countable (n : Counts) : Type 0 where
@@ -41,63 +41,63 @@ line_kept true line old h k = h
 line_kept false line old h k = k
 
 -- the next counts are such again while the entries are few enough
-pub counted-countable : (n : Counts) (e : Entry) → Countable n → n.entries + 1 < 2 ^ 62 → entryLine e ≤ 65535 → Countable (countedOf n e)
-unfolding countedOf
-counted-countable n (entry.Image fmt siz width address) h m l = record { entries = m; rectangles = omega arith; line = h.line }
-counted-countable n (entry.Tile i fmt siz line tmem palette cms cmt masks maskt) h m l = record { entries = m; rectangles = omega arith; line = line_kept (eqb i 7) line n.line l h.line }
-counted-countable n (entry.Size i uls ult lrs lrt) h m l = record { entries = m; rectangles = omega arith; line = h.line }
-counted-countable n (entry.Load i uls ult lrs lrt words rows stride start len) h m l = record { entries = m; rectangles = omega arith; line = h.line }
-counted-countable n (entry.Rect i ulx uly lrx lry uls ult dsdx dtdy row) h m l = record { entries = m; rectangles = omega arith; line = h.line }
+pub counted_countable : (n : Counts) (e : Entry) → Countable n → n.entries + 1 < 2 ^ 62 → entry_line e ≤ 65535 → Countable (counted_of n e)
+unfolding counted_of
+counted_countable n (entry.Image fmt siz width address) h m l = record { entries = m; rectangles = omega arith; line = h.line }
+counted_countable n (entry.Tile i fmt siz line tmem palette cms cmt masks maskt) h m l = record { entries = m; rectangles = omega arith; line = line_kept (eqb i 7) line n.line l h.line }
+counted_countable n (entry.Size i uls ult lrs lrt) h m l = record { entries = m; rectangles = omega arith; line = h.line }
+counted_countable n (entry.Load i uls ult lrs lrt words rows stride start len) h m l = record { entries = m; rectangles = omega arith; line = h.line }
+counted_countable n (entry.Rect i ulx uly lrx lry uls ult dsdx dtdy row) h m l = record { entries = m; rectangles = omega arith; line = h.line }
 
-pub zero-countable : Countable zeroCounts
-zero-countable = record { entries = omega arith; rectangles = omega arith; line = omega arith }
+pub zero_countable : Countable zero_counts
+zero_countable = record { entries = omega arith; rectangles = omega arith; line = omega arith }
 
-pub counted-entries : (n : Counts) (e : Entry) → (countedOf n e).entries ≡ n.entries + 1
-unfolding countedOf
-counted-entries n (entry.Image fmt siz width address) = refl
-counted-entries n (entry.Tile i fmt siz line tmem palette cms cmt masks maskt) = refl
-counted-entries n (entry.Size i uls ult lrs lrt) = refl
-counted-entries n (entry.Load i uls ult lrs lrt words rows stride start len) = refl
-counted-entries n (entry.Rect i ulx uly lrx lry uls ult dsdx dtdy row) = refl
+pub counted_entries : (n : Counts) (e : Entry) → (counted_of n e).entries ≡ n.entries + 1
+unfolding counted_of
+counted_entries n (entry.Image fmt siz width address) = refl
+counted_entries n (entry.Tile i fmt siz line tmem palette cms cmt masks maskt) = refl
+counted_entries n (entry.Size i uls ult lrs lrt) = refl
+counted_entries n (entry.Load i uls ult lrs lrt words rows stride start len) = refl
+counted_entries n (entry.Rect i ulx uly lrx lry uls ult dsdx dtdy row) = refl
 
 -- from any counts: entries and rectangles are added, and tile words are the larger
-pub entries-all : (n : Counts) (es : List Entry) → (countedAll n es).entries ≡ n.entries + length es
-unfolding countedAll
-entries-all n [] = omega arith
-entries-all n (e ∷ es) = omega (arith, entries-all (countedOf n e) es, counted-entries n e)
+pub entries_all : (n : Counts) (es : List Entry) → (counted_all n es).entries ≡ n.entries + length es
+unfolding counted_all
+entries_all n [] = omega arith
+entries_all n (e ∷ es) = omega (arith, entries_all (counted_of n e) es, counted_entries n e)
 
-counted-rectangles : (n : Counts) (e : Entry) (es : List Entry) → (countedOf n e).rectangles + rectangles es ≡ n.rectangles + rectangles (e ∷ es)
-unfolding countedOf rectangles
-counted-rectangles n (entry.Image fmt siz width address) es = refl
-counted-rectangles n (entry.Tile i fmt siz line tmem palette cms cmt masks maskt) es = refl
-counted-rectangles n (entry.Size i uls ult lrs lrt) es = refl
-counted-rectangles n (entry.Load i uls ult lrs lrt words rows stride start len) es = refl
-counted-rectangles n (entry.Rect i ulx uly lrx lry uls ult dsdx dtdy row) es = omega arith
+counted_rectangles : (n : Counts) (e : Entry) (es : List Entry) → (counted_of n e).rectangles + rectangles es ≡ n.rectangles + rectangles (e ∷ es)
+unfolding counted_of rectangles
+counted_rectangles n (entry.Image fmt siz width address) es = refl
+counted_rectangles n (entry.Tile i fmt siz line tmem palette cms cmt masks maskt) es = refl
+counted_rectangles n (entry.Size i uls ult lrs lrt) es = refl
+counted_rectangles n (entry.Load i uls ult lrs lrt words rows stride start len) es = refl
+counted_rectangles n (entry.Rect i ulx uly lrx lry uls ult dsdx dtdy row) es = omega arith
 
-pub rectangles-all : (n : Counts) (es : List Entry) → (countedAll n es).rectangles ≡ n.rectangles + rectangles es
-unfolding countedAll rectangles
-rectangles-all n [] = omega arith
-rectangles-all n (e ∷ es) = rectangles-all (countedOf n e) es ∙ counted-rectangles n e es
+pub rectangles_all : (n : Counts) (es : List Entry) → (counted_all n es).rectangles ≡ n.rectangles + rectangles es
+unfolding counted_all rectangles
+rectangles_all n [] = omega arith
+rectangles_all n (e ∷ es) = rectangles_all (counted_of n e) es ∙ counted_rectangles n e es
 
-counted_words : (n : Counts) (e : Entry) (es : List Entry) → max (countedOf n e).words (wordsFrom (countedOf n e).line es) ≡ max n.words (wordsFrom n.line (e ∷ es))
-unfolding countedOf wordsFrom
+counted_words : (n : Counts) (e : Entry) (es : List Entry) → max (counted_of n e).words (words_from (counted_of n e).line es) ≡ max n.words (words_from n.line (e ∷ es))
+unfolding counted_of words_from
 counted_words n (entry.Image fmt siz width address) es = refl
 counted_words n (entry.Tile i fmt siz line tmem palette cms cmt masks maskt) es = refl
 counted_words n (entry.Size i uls ult lrs lrt) es = refl
 counted_words n (entry.Load i uls ult lrs lrt words rows stride start len) es = omega arith
 counted_words n (entry.Rect i ulx uly lrx lry uls ult dsdx dtdy row) es = refl
 
-pub words-all : (n : Counts) (es : List Entry) → (countedAll n es).words ≡ max n.words (wordsFrom n.line es)
-unfolding countedAll wordsFrom
-words-all n [] = omega arith
-words-all n (e ∷ es) = words-all (countedOf n e) es ∙ counted_words n e es
+pub words_all : (n : Counts) (es : List Entry) → (counted_all n es).words ≡ max n.words (words_from n.line es)
+unfolding counted_all words_from
+words_all n [] = omega arith
+words_all n (e ∷ es) = words_all (counted_of n e) es ∙ counted_words n e es
 
 -- so from zero the counts of a plan's entries end as its end says
-pub end-of : (p : Plan) → endWith (countedAll zeroCounts p.entries) p.verdict ≡ end_of p
+pub end_of_lem : (p : Plan) → end_with (counted_all zero_counts p.entries) p.verdict ≡ end_of p
 unfolding end_of
-end-of p =
+end_of_lem p =
     let es = p.entries in
-    let n : (countedAll zeroCounts es).entries ≡ length es = omega (arith, entries-all zeroCounts es) in
-    let r : (countedAll zeroCounts es).rectangles ≡ rectangles es = omega (arith, rectangles-all zeroCounts es) in
-    let w : (countedAll zeroCounts es).words ≡ wordsFrom 0 es = omega (arith, words-all zeroCounts es) in
+    let n : (counted_all zero_counts es).entries ≡ length es = omega (arith, entries_all zero_counts es) in
+    let r : (counted_all zero_counts es).rectangles ≡ rectangles es = omega (arith, rectangles_all zero_counts es) in
+    let w : (counted_all zero_counts es).words ≡ words_from 0 es = omega (arith, words_all zero_counts es) in
     rw (n, r, w)

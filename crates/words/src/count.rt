@@ -1,7 +1,7 @@
 // The numbers that a plan's end gives, kept as its entries are given.
 ghost use Rattle.std.specs.Prelude.{◌≡◌, ◌≤◌};
 ghost use Rattle.plan.specs.Sound.{entry_rows};
-ghost use Rattle.words.specs.Counts.{Countable, countedOf, endWith};
+ghost use Rattle.words.specs.Counts.{Countable, counted_of, end_with};
 
 use object::Verdict;
 use plan::{End, Entry};
@@ -17,11 +17,11 @@ pub struct Counts {
 }
 
 // One entry more.
-#[tactic(auto, unfolding(crate::specs::Counts::countedOf))]
+#[tactic(auto, unfolding(crate::specs::Counts::counted_of))]
 pub fn counted(n: Counts, e: Entry) -> Counts
     requires countable { Countable n }
     requires e_bound { entry_rows e ≤ 16384 }
-    ensures { result ≡ countedOf n e }
+    ensures { result ≡ counted_of n e }
 {
     let mut next = n;
     next.entries = n.entries + 1;
@@ -45,7 +45,7 @@ pub fn counted(n: Counts, e: Entry) -> Counts
 
 // The end that these counts and a verdict make.
 pub fn end_of(n: Counts, v: Verdict) -> End
-    ensures { result ≡ endWith n v }
+    ensures { result ≡ end_with n v }
 {
     End {
         verdict: v,

@@ -1,7 +1,7 @@
 // One entry: its eleven words, and a bank after it.
 ghost use Rattle.std.specs.Prelude.{◌≡◌};
 ghost use Rattle.plan.specs.Sound.{Narrow};
-ghost use Rattle.plan.specs.Run.{descriptor, bankStep, entryWords, endWords};
+ghost use Rattle.plan.specs.Run.{descriptor, bank_step, entry_words, end_words};
 
 use checks::number;
 use plan::{End, Entry};
@@ -10,14 +10,14 @@ use tile::{Bank, Tile, size_set, tile_set};
 
 // The words of each kind: its number, what it gives, signed numbers modulo 2^64, then zeros.
 
-#[tactic(auto, unfolding(plan::specs::Run::entryWords))]
+#[tactic(auto, unfolding(plan::specs::Run::entry_words))]
 pub fn image_words(fmt: u64, siz: u64, width: u64, address: u64) -> [u64; 11]
-    ensures { result ≡ entryWords (Entry.Image fmt siz width address) }
+    ensures { result ≡ entry_words (Entry.Image fmt siz width address) }
 {
     [1, fmt, siz, width, address, 0, 0, 0, 0, 0, 0]
 }
 
-#[tactic(auto, unfolding(plan::specs::Run::entryWords))]
+#[tactic(auto, unfolding(plan::specs::Run::entry_words))]
 pub fn tile_words(
     index: u64,
     fmt: u64,
@@ -30,21 +30,21 @@ pub fn tile_words(
     masks: u64,
     maskt: u64,
 ) -> [u64; 11]
-    ensures { result ≡ entryWords (Entry.Tile index fmt siz line tmem palette cms cmt masks maskt) }
+    ensures { result ≡ entry_words (Entry.Tile index fmt siz line tmem palette cms cmt masks maskt) }
 {
     [
         2, index, fmt, siz, line, tmem, palette, cms, cmt, masks, maskt,
     ]
 }
 
-#[tactic(auto, unfolding(plan::specs::Run::entryWords))]
+#[tactic(auto, unfolding(plan::specs::Run::entry_words))]
 pub fn size_words(index: u64, uls: u64, ult: u64, lrs: u64, lrt: u64) -> [u64; 11]
-    ensures { result ≡ entryWords (Entry.Size index uls ult lrs lrt) }
+    ensures { result ≡ entry_words (Entry.Size index uls ult lrs lrt) }
 {
     [3, index, uls, ult, lrs, lrt, 0, 0, 0, 0, 0]
 }
 
-#[tactic(auto, unfolding(plan::specs::Run::entryWords))]
+#[tactic(auto, unfolding(plan::specs::Run::entry_words))]
 pub fn load_words(
     index: u64,
     uls: u64,
@@ -57,7 +57,7 @@ pub fn load_words(
     start: u64,
     length: u64,
 ) -> [u64; 11]
-    ensures { result ≡ entryWords (Entry.Load index uls ult lrs lrt words rows stride start length) }
+    ensures { result ≡ entry_words (Entry.Load index uls ult lrs lrt words rows stride start length) }
 {
     [
         4, index, uls, ult, lrs, lrt, words, rows, stride, start, length,
@@ -76,7 +76,7 @@ pub fn rect_words(
     dtdy: i64,
     row: u64,
 ) -> [u64; 11]
-    ensures { result ≡ entryWords (Entry.Rect tile ulx uly lrx lry uls ult dsdx dtdy row) }
+    ensures { result ≡ entry_words (Entry.Rect tile ulx uly lrx lry uls ult dsdx dtdy row) }
 {
     [
         5,
@@ -95,7 +95,7 @@ pub fn rect_words(
 
 // An entry's eleven words.
 pub fn entry_words(e: Entry) -> [u64; 11]
-    ensures { result ≡ entryWords e }
+    ensures { result ≡ entry_words e }
 {
     match e {
         Entry::Image {
@@ -154,7 +154,7 @@ pub fn entry_words(e: Entry) -> [u64; 11]
 
 // An end's words, which no plan stores: 9, its four numbers, then zeros.
 pub fn end_words(end: End) -> [u64; 11]
-    ensures { result ≡ endWords end }
+    ensures { result ≡ end_words end }
 {
     let v = end.verdict;
     [
@@ -208,10 +208,10 @@ fn described(
 }
 
 // The bank once an entry is given; a load sets its tile's size itself.
-#[tactic(auto, unfolding(plan::specs::Run::bankStep))]
+#[tactic(auto, unfolding(plan::specs::Run::bank_step))]
 pub fn bank_after(bank: Bank, e: Entry) -> Bank
     requires { Narrow e }
-    ensures { result ≡ bankStep bank e }
+    ensures { result ≡ bank_step bank e }
 {
     match e {
         Entry::Tile {

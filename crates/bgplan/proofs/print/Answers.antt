@@ -6,14 +6,14 @@ use Rattle.planner.specs.declared.types.Planner.{Planner}
 use Rattle.planner.specs.Coming.{coming}
 use Rattle.show.specs.declared.text.Chunk.{Chunk}
 use Rattle.show.specs.Chunk.{ChunkIs}
-use Rattle.show.specs.Joined.{comingText, leftText, call-left, call-fewer}
+use Rattle.show.specs.Joined.{coming_text, left_text, call_left, call_fewer}
 use Rattle.bgplan.proofs.print.Goals as goal
 
 -- the text out before, a call's, and what that leaves to come
-module _ (k : List ℕ) (text : List ℕ) (p : Planner) (out out' : List ℕ) (r : Chunk) (i : ChunkIs (coming p) out out' r) (rest : k ≡ text ++ comingText (coming p)) where
-  so-far : (done : Bool) → r.done ≡ done → k ≡ (text ++ take r.count out') ++ leftText done (coming r.planner)
-  so-far done e =
-      rest ∙ ap (λ t. text ++ t) (call-left (coming p) out out' r i ∙ ap (λ (d : Bool). take r.count out' ++ leftText d (coming r.planner)) e)
+module _ (k : List ℕ) (text : List ℕ) (p : Planner) (out out' : List ℕ) (r : Chunk) (i : ChunkIs (coming p) out out' r) (rest : k ≡ text ++ coming_text (coming p)) where
+  so_far : (done : Bool) → r.done ≡ done → k ≡ (text ++ take r.count out') ++ left_text done (coming r.planner)
+  so_far done e =
+      rest ∙ ap (λ t. text ++ t) (call_left (coming p) out out' r i ∙ ap (λ (d : Bool). take r.count out' ++ left_text d (coming r.planner)) e)
       ∙ sym (append_assoc text (take r.count out') _)
 
 pub loop-planner-init : goal.loop-planner-init
@@ -22,13 +22,13 @@ loop-planner-init g c = record { text = []; out = Appends-nil _; rest = refl; ro
 pub returns-then-chunk : goal.returns-then-chunk
 returns-then-chunk g c =
     let l = c.loop-planner in
-    let s = so-far _ l.invariant.text _ _ _ _ c.next_text-chunk.ensures l.invariant.rest true c.if-chunk.true ∙ append-nil _ in
+    let s = so_far _ l.invariant.text _ _ _ _ c.next_text-chunk.ensures l.invariant.rest true c.if-chunk.true ∙ append-nil _ in
     subst (Appends _ _) (sym s) (Appends-trans _ _ _ _ _ l.invariant.out c.in_ok-write_all.ensures.bytes)
 
 pub loop-planner-smaller : goal.loop-planner-smaller
 loop-planner-smaller g c =
     let l = c.loop-planner in
-    call-fewer _ _ _ _ c.next_text-chunk.ensures (omega (arith, l.invariant.room)) c.if-chunk.false
+    call_fewer _ _ _ _ c.next_text-chunk.ensures (omega (arith, l.invariant.room)) c.if-chunk.false
 
 pub loop-planner-preserved : goal.loop-planner-preserved
 loop-planner-preserved g c =
@@ -36,7 +36,7 @@ loop-planner-preserved g c =
     record {
       text = _;
       out = Appends-trans _ _ _ _ _ l.invariant.out c.in_ok-write_all.ensures.bytes;
-      rest = so-far _ l.invariant.text _ _ _ _ c.next_text-chunk.ensures l.invariant.rest false c.if-chunk.false;
+      rest = so_far _ l.invariant.text _ _ _ _ c.next_text-chunk.ensures l.invariant.rest false c.if-chunk.false;
       room = c.next_text-chunk.auto.out ∙ l.invariant.room;
       sound = c.next_text-chunk.ensures.sound;
     }

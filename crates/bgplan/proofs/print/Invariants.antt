@@ -3,13 +3,13 @@ use Rattle.std.proofs.Common.{◌≡◌, List, ◌++◌, ℕ, length, Option}
 use Rattle.std.specs.Io.KnownBytes.{Appends}
 use Rattle.planner.specs.declared.types.Planner.{Planner}
 use Rattle.planner.specs.Coming.{Sound, coming}
-use Rattle.show.specs.Joined.{comingText}
+use Rattle.show.specs.Joined.{coming_text}
 use Rattle.bgplan.proofs.print.Given as goal
 
 pub record Printing {W : Type 0} (contents : W → Option (List ℕ)) (output₀ output : W) (start planner : Planner) (piece : List ℕ) : Type 0 where
   pub text : List ℕ
   pub out : Appends (contents output₀) (contents output) text
-  pub rest : comingText (coming start) ≡ text ++ comingText (coming planner)
+  pub rest : coming_text (coming start) ≡ text ++ coming_text (coming planner)
   pub room : length piece ≡ 262144
   pub sound : Sound planner
 

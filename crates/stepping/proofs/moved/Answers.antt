@@ -1,6 +1,6 @@
 -- The planner's step, put into words.
-use Rattle.stepping.proofs.Movement.{moved-is}
+use Rattle.stepping.proofs.Movement.{moved_is}
 use Rattle.stepping.proofs.moved.Goals as goal
 
 pub returns : goal.returns
-returns c = moved-is c.args.p c.step-s.result c.step-s.ensures c.args.bank.now _ _ _ c.keep.ensures c.set_bank.ensures c.answer.ensures
+returns c = moved_is c.args.p c.step-s.result c.step-s.ensures c.args.bank.now _ _ _ c.keep.ensures c.set_bank.ensures c.answer.ensures

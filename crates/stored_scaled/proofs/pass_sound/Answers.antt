@@ -1,7 +1,7 @@
 -- One comparison for each of the definition's tests.
-use Rattle.stored_scaled.specs.Course.{placeFrom, walkFrom, passTest}
+use Rattle.stored_scaled.specs.Course.{place_from, walk_from, pass_test}
 use Rattle.stored_scaled.proofs.pass_sound.Goals as goal
 
 pub returns : goal.returns
-unfolding placeFrom walkFrom passTest
+unfolding place_from walk_from pass_test
 returns c = rw (c.whole_sound.ensures, c.above.ensures, c.below.ensures, c.least.ensures, c.above-draw.ensures, c.above-lines.ensures)

@@ -1,11 +1,11 @@
 -- Each field is the definition's; a signed number reads back out of its local.
 use Rattle.std.proofs.Common.{◌∙◌}
 use Rattle.signed.specs.Word.{rk}
-use Rattle.stored_scaled.specs.Course.{placeFrom}
+use Rattle.stored_scaled.specs.Course.{place_from}
 use Rattle.stored_scaled.proofs.place_from.Goals as goal
 
 pub returns : goal.returns
-unfolding placeFrom
+unfolding place_from
 returns c =
     rw (
       c.scaled_from-scaled.ensures,

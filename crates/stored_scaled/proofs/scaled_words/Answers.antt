@@ -1,21 +1,21 @@
 -- Each word is the definition's number, and what a field of 64 bits holds fits it.
 use Rattle.std.proofs.Common.{rules}
 use Rattle.signed.specs.Word.{rd}
-use Rattle.stored_scaled.specs.Course.{scaledWords, FitsPlace}
+use Rattle.stored_scaled.specs.Course.{scaled_words, FitsPlace}
 use Rattle.stored_scaled.proofs.scaled_words.Goals as goal
 
 pub returns : goal.returns
-unfolding scaledWords
+unfolding scaled_words
 returns c =
     let f : FitsPlace c.args.p =
     record {
       s = search rules;
       remain = search rules;
       count = search rules;
-      slice-rows = search rules;
+      slice_rows = search rules;
       source = search rules;
       rows = search rules;
-      part-rows = search rules;
+      part_rows = search rules;
       destination = search rules;
       width = search rules;
       next = search rules;
@@ -37,6 +37,6 @@ returns c =
         c.word_of-next_remain.ensures,
         c.piece_word-piece.ensures,
       )
-          (rw (rd f.s, rd f.remain, rd f.count, rd f.slice-rows, rd f.source, rd f.rows, rd f.part-rows, rd f.destination, rd f.width, rd f.next)),
+          (rw (rd f.s, rd f.remain, rd f.count, rd f.slice_rows, rd f.source, rd f.rows, rd f.part_rows, rd f.destination, rd f.width, rd f.next)),
       f,
     )

@@ -1,9 +1,9 @@
 -- Each field is the definition's.
-use Rattle.giving.specs.Host.{tileFrom}
+use Rattle.giving.specs.Host.{tile_from}
 use Rattle.banks.proofs.bank.tile_from.Goals as goal
 
 pub returns : goal.returns
-unfolding tileFrom
+unfolding tile_from
 returns c = λ i.
     record {
       uls = c.half.ensures i;

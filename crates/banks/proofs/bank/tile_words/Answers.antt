@@ -1,10 +1,10 @@
 -- Each word is the definition's number.
 use Rattle.std.proofs.Common.{[], ◌∷◌}
-use Rattle.plan.specs.Check.{tileNumbers}
+use Rattle.plan.specs.Check.{tile_numbers}
 use Rattle.banks.proofs.bank.tile_words.Goals as goal
 
 pub returns : goal.returns
-unfolding tileNumbers
+unfolding tile_numbers
 returns c = λ i.
     c.of_half.ensures i
     ∷ c.of_half-2.ensures i

@@ -1,11 +1,11 @@
 -- The Rust's words are the row's conditions, joined from the left.
 use Rattle.std.proofs.Math.Bool.{or_assoc, or-false}
-use Rattle.checks.specs.Check.{copyFaults}
+use Rattle.checks.specs.Check.{copy_faults}
 use Rattle.checks.specs.Ties.{none, product}
 use Rattle.checks.proofs.check.copy_bad.Goals as goal
 
 pub returns : goal.returns
-unfolding copyFaults
+unfolding copy_faults
 returns c =
     rw (
       c.flip_bad.ensures,

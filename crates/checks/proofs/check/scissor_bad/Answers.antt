@@ -2,11 +2,11 @@
 use Rattle.std.proofs.Common.{FitsSigned, rules, to_z-of_z}
 use Rattle.std.proofs.Math.Bool.{or_assoc, or-false}
 use Rattle.std.specs.Int.{w32}
-use Rattle.checks.specs.Check.{scissorBad}
+use Rattle.checks.specs.Check.{scissor_bad}
 use Rattle.checks.proofs.check.scissor_bad.Goals as goal
 
 pub returns : goal.returns
-unfolding scissorBad
+unfolding scissor_bad
 returns c =
     let a : FitsSigned w32 c.args.s.ulx = search rules in
     let b : FitsSigned w32 c.args.s.uly = search rules in

@@ -1,12 +1,12 @@
 -- Each way to the one place is one case of the strip after this one.
 use Rattle.std.proofs.Common.{arith, lt-ltb, le-ltb}
-use Rattle.copy.specs.Walk.{stripNext, copyNextOf}
+use Rattle.copy.specs.Walk.{strip_next, copy_next_of}
 use Rattle.copy.proofs.Onward.{moves}
 use Rattle.copy.proofs.walk.strip_next.Goals as goal
 use Rattle.copy.proofs.walk.strip_next.Goals.{then-right-c, else-right-c+else-c-y}
 
 pub returns-then-c-y : goal.returns-then-c-y
-unfolding copyNextOf stripNext
+unfolding copy_next_of strip_next
 returns-then-c-y c = simp (le-ltb _ _ c.if-right-c.false, le-ltb _ _ c.if-c-y.true) (rw c.due_entry-entry.ensures)
 
 pub strip_row-sy-requires-clause-sound_copy : goal.strip_row-sy-requires-clause-sound_copy
@@ -24,7 +24,7 @@ place_at-place-requires-clause-x_lt_width c =
     elim c.if-right-c.branch [ then-right-c w ↦ omega arith | else-right-c+else-c-y w ↦ let s = m.copy in omega arith ]
 
 pub returns : goal.returns
-unfolding copyNextOf stripNext
+unfolding copy_next_of strip_next
 returns c =
     let e = c.due_entry-entry.ensures in
     let p = c.place_at-place.ensures in

@@ -2,7 +2,7 @@
 use Rattle.std.proofs.Common.{◌<◌, ◌^◌, arith, lit<, pos, ◌+ℤ◌, ◌-ℤ◌, SFits}
 use Rattle.std.specs.Int.{w64}
 use Rattle.signed.specs.Diff.{zdiff, zarith}
-use Rattle.signed.specs.Floor.{modulo, modulo-lt}
+use Rattle.signed.specs.Floor.{modulo, modulo_lt}
 use Rattle.signed.specs.Word.{rd, rdn}
 use Rattle.first.specs.First.{count_of}
 use Rattle.first.proofs.first.count_of.Goals as goal
@@ -10,7 +10,7 @@ use Rattle.first.proofs.first.count_of.Goals as goal
 pub returns : goal.returns
 unfolding count_of
 returns c =
-    let l : modulo c.args.start 1024 < 1024 = modulo-lt c.args.start (lit< tt) in
+    let l : modulo c.args.start 1024 < 1024 = modulo_lt c.args.start (lit< tt) in
     let m : modulo c.args.start 1024 < 2 ^ 63 = omega arith in
     let f : c.args.frame_rows < 2 ^ 63 = omega arith in
     let h : c.args.hidden < 2 ^ 63 = omega arith in

@@ -11,43 +11,43 @@ use Rattle.first.proofs.first.cut_of.Goals as goal
 use Rattle.first.proofs.first.cut_of.Goals.{After-floor_div-slice}
 
 lines : {z : Scaled} → SoundScaled z → 0 < z.frame_rows
-lines s = omega (arith, s.frame-rows)
+lines s = omega (arith, s.frame_rows)
 
-offset-is : (c : After-floor_div-slice) → c.frame_offset-offset.result ≡ offset_of c.args.z c.args.i
-offset-is c = rw (rk _ c.image_offset.type_inv, c.image_offset.ensures.value) at c.frame_offset-offset.ensures.value
+offset_is : (c : After-floor_div-slice) → c.frame_offset-offset.result ≡ offset_of c.args.z c.args.i
+offset_is c = rw (rk _ c.image_offset.type_inv, c.image_offset.ensures.value) at c.frame_offset-offset.ensures.value
 
-offset-in : (c : After-floor_div-slice) → (neg_ℤ (pos (2 ^ 49)) ≤ℤ offset_of c.args.z c.args.i) × (offset_of c.args.z c.args.i ≤ℤ pos (2 ^ 49))
-offset-in c = rw (offset-is c) at c.frame_offset-offset.ensures.lower_bound
+offset_in : (c : After-floor_div-slice) → (neg_ℤ (pos (2 ^ 49)) ≤ℤ offset_of c.args.z c.args.i) × (offset_of c.args.z c.args.i ≤ℤ pos (2 ^ 49))
+offset_in c = rw (offset_is c) at c.frame_offset-offset.ensures.lower_bound
 
-slice-is : (c : After-floor_div-slice) → to_z w64 (of_z w64 c.floor_div-slice.result) ≡ slice_of c.args.z c.args.i
-slice-is c = rk _ c.floor_div-slice.type_inv ∙ rw (rk _ c.frame_offset-offset.type_inv, offset-is c) at c.floor_div-slice.ensures
+slice_is : (c : After-floor_div-slice) → to_z w64 (of_z w64 c.floor_div-slice.result) ≡ slice_of c.args.z c.args.i
+slice_is c = rk _ c.floor_div-slice.type_inv ∙ rw (rk _ c.frame_offset-offset.type_inv, offset_is c) at c.floor_div-slice.ensures
 
 pub slice_start-start-requires-clause-sfits : goal.slice_start-start-requires-clause-sfits
 slice_start-start-requires-clause-sfits c =
     let g = (goal.at.slice_start-start-requires-clause-sfits c).After-floor_div-slice in
-    let r = offset-in g in
-    rw (slice-is g) (start_fits (offset_of c.args.z c.args.i) c.args.z.frame_rows (lines c.requires.sound_scaled) c.requires.sound_scaled.frame-rows' r.0 r.1)
+    let r = offset_in g in
+    rw (slice_is g) (start_fits (offset_of c.args.z c.args.i) c.args.z.frame_rows (lines c.requires.sound_scaled) c.requires.sound_scaled.frame_rows' r.0 r.1)
 
 pub hidden_of-hidden-requires-clause-start_le_offset : goal.hidden_of-hidden-requires-clause-start_le_offset
 hidden_of-hidden-requires-clause-start_le_offset c =
     let g = (goal.at.hidden_of-hidden-requires-clause-start_le_offset c).After-floor_div-slice in
-    let r = offset-in g in
+    let r = offset_in g in
     let t = starts (offset_of c.args.z c.args.i) c.args.z.frame_rows (lines c.requires.sound_scaled) in
-    let m = c.requires.sound_scaled.frame-rows' in
-    let s = rk _ c.slice_start-start.type_inv ∙ rw (slice-is g) at c.slice_start-start.ensures in
-    rw (s, rk _ c.frame_offset-offset.type_inv, offset-is g) (simp zdiff (omega zarith))
+    let m = c.requires.sound_scaled.frame_rows' in
+    let s = rk _ c.slice_start-start.type_inv ∙ rw (slice_is g) at c.slice_start-start.ensures in
+    rw (s, rk _ c.frame_offset-offset.type_inv, offset_is g) (simp zdiff (omega zarith))
 
 pub returns : goal.returns
 returns c =
     let g = (goal.at.returns c).After-floor_div-slice in
-    let r = offset-in g in
+    let r = offset_in g in
     let k = slice_in (offset_of c.args.z c.args.i) c.args.z.frame_rows (lines c.requires.sound_scaled) r.0 r.1 in
-    let s = rk _ c.slice_start-start.type_inv ∙ rw (slice-is g) at c.slice_start-start.ensures in
+    let s = rk _ c.slice_start-start.type_inv ∙ rw (slice_is g) at c.slice_start-start.ensures in
     record {
-      slice = slice-is g;
+      slice = slice_is g;
       start = s;
-      hidden = rw (s, rk _ c.frame_offset-offset.type_inv, offset-is g) at c.hidden_of-hidden.ensures.result_value;
-      low = rw (slice-is g) k.0;
-      high = rw (slice-is g) k.1;
+      hidden = rw (s, rk _ c.frame_offset-offset.type_inv, offset_is g) at c.hidden_of-hidden.ensures.result_value;
+      low = rw (slice_is g) k.0;
+      high = rw (slice_is g) k.1;
       most = c.hidden_of-hidden.ensures.upper_bound;
     }

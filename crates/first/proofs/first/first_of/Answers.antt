@@ -6,23 +6,23 @@ use Rattle.signed.specs.Word.{rdn, rk}
 use Rattle.plan.specs.declared.types.First.{First}
 use Rattle.plan.specs.Scaled.{first_of}
 use Rattle.plan.specs.Sound.{SoundFirst}
-use Rattle.first.specs.First.{slice_of, startOfSlice}
+use Rattle.first.specs.First.{slice_of, start_of_slice}
 use Rattle.first.specs.Near.{reads49}
-use Rattle.first.specs.FirstLaw.{row_in, firstFrom, first-from, first-sound}
+use Rattle.first.specs.FirstLaw.{row_in, first_from, first_from_lem, first_sound}
 use Rattle.first.proofs.first.first_of.Goals as goal
 use Rattle.first.proofs.first.first_of.Goals.{After-image_row-image_row}
 
 pub slice_start-top-requires-clause-sfits : goal.slice_start-top-requires-clause-sfits
 slice_start-top-requires-clause-sfits c =
     let u = c.cut_of-cut.ensures in
-    let r = row_in c.args.z.image_rows c.cut_of-cut.result.slice c.requires.sound_scaled.image-rows' u.low u.high in
+    let r = row_in c.args.z.image_rows c.cut_of-cut.result.slice c.requires.sound_scaled.image_rows' u.low u.high in
     rw (reads49 u.low u.high) (omega zarith)
 
 pub image_row-image_row-requires-clause-pos_bound : goal.image_row-image_row-requires-clause-pos_bound
 image_row-image_row-requires-clause-pos_bound c =
     let u = c.cut_of-cut.ensures in
     rw (rk _ c.slice_start-top.type_inv, c.slice_start-top.ensures, reads49 u.low u.high)
-    (row_in c.args.z.image_rows c.cut_of-cut.result.slice c.requires.sound_scaled.image-rows' u.low u.high)
+    (row_in c.args.z.image_rows c.cut_of-cut.result.slice c.requires.sound_scaled.image_rows' u.low u.high)
 
 abbrev first : After-image_row-image_row → First
 first c = record {
@@ -42,7 +42,7 @@ is c =
     let k = reads49 u.low u.high ∙ u.slice in
     let h = c.image_hidden_of-image_hidden.ensures.value in
     let l : c.image_hidden_of-image_hidden.result < 2 ^ 63 = omega arith in
-    let at : first c ≡ firstFrom z i (slice_of z i) (startOfSlice z i) (pos c.cut_of-cut.result.hidden) = λ j. record {
+    let at : first c ≡ first_from z i (slice_of z i) (start_of_slice z i) (pos c.cut_of-cut.result.hidden) = λ j. record {
       slice = k j;
       image_hidden = (rdn c.image_hidden_of-image_hidden.result l ∙ ap pos h) j;
       count = (rk c.count_of-count.result c.count_of-count.type_inv ∙ rw (rk c.cut_of-cut.result.start c.cut_of-cut.type_inv.1.1.1.0.1, u.start) at c.count_of-count.ensures) j;
@@ -50,9 +50,9 @@ is c =
       slice_rows = (rk c.rows_left-slice_rows.result c.rows_left-slice_rows.type_inv ∙ rw h at c.rows_left-slice_rows.ensures) j;
       image_row = (rw (rk c.slice_start-top.result c.slice_start-top.type_inv, c.slice_start-top.ensures, k, h) at c.image_row-image_row.ensures) j;
     } in
-    at ∙ ap (firstFrom z i (slice_of z i) (startOfSlice z i)) u.hidden ∙ first-from z i
+    at ∙ ap (first_from z i (slice_of z i) (start_of_slice z i)) u.hidden ∙ first_from_lem z i
 
 pub returns : goal.returns
 returns c =
     let i = is (goal.at.returns c).After-image_row-image_row in
-    record { is = i; sound = subst (SoundFirst c.args.z) (sym i) (first-sound c.args.z c.args.i c.requires.sound_scaled) }
+    record { is = i; sound = subst (SoundFirst c.args.z) (sym i) (first_sound c.args.z c.args.i c.requires.sound_scaled) }

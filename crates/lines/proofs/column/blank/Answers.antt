@@ -2,15 +2,15 @@
 use Rattle.std.proofs.Common.{◌≡◌, ℕ, List, ◌+◌, ◌-◌, ◌∙◌, length, ap, sym, arith}
 use Rattle.std.proofs.Math.ListN.{set, replicate, length-replicate, replicate-append-replicate}
 use Rattle.lines.specs.Text.{space}
-use Rattle.lines.specs.Lines.{withText}
-use Rattle.lines.proofs.Texts.{with-nil, with-next}
+use Rattle.lines.specs.Lines.{with_text}
+use Rattle.lines.proofs.Texts.{with_nil, with_next}
 use Rattle.lines.proofs.column.blank.Goals as goal
 
 pub loop-i-init : goal.loop-i-init
 loop-i-init c =
     let a = c.args in
     let z : a.at - a.at ≡ 0 = omega arith in
-    (omega arith, (omega arith, sym (with-nil a.out.now a.at) ∙ ap (λ (n : ℕ). withText a.out.now a.at (replicate n space)) (sym z)))
+    (omega arith, (omega arith, sym (with_nil a.out.now a.at) ∙ ap (λ (n : ℕ). with_text a.out.now a.at (replicate n space)) (sym z)))
 
 pub loop-i-preserved : goal.loop-i-preserved
 loop-i-preserved c =
@@ -23,7 +23,7 @@ loop-i-preserved c =
       (
         omega arith,
         ap (λ (xs : List ℕ). set xs l.i space) l.invariant.1.1
-            ∙ with-next a.out.now a.at bs l.i space e (omega arith)
-            ∙ ap (withText a.out.now a.at) (replicate-append-replicate (l.i - a.at) 1 space ∙ ap (λ (m : ℕ). replicate m space) n),
+            ∙ with_next a.out.now a.at bs l.i space e (omega arith)
+            ∙ ap (with_text a.out.now a.at) (replicate-append-replicate (l.i - a.at) 1 space ∙ ap (λ (m : ℕ). replicate m space) n),
       ),
     )

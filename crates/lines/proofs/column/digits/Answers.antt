@@ -1,5 +1,5 @@
 -- A turn puts the last digit that is owed in front of those that are done; at the end none is owed, or there is no place for it.
-use Rattle.lines.proofs.Columns.{writing_start, writing_more, writing-done}
+use Rattle.lines.proofs.Columns.{writing_start, writing_more, writing_done}
 use Rattle.lines.proofs.column.digits.Goals as goal
 
 pub loop-more-init : goal.loop-more-init
@@ -13,4 +13,4 @@ loop-more-preserved c =
 pub returns : goal.returns
 returns c =
     let l = c.loop-more in
-    writing-done c.args.out.now c.args.at c.args.end c.args.x l.out l.n l.more l.i l.invariant c.loop-more-test.false
+    writing_done c.args.out.now c.args.at c.args.end c.args.x l.out l.n l.more l.i l.invariant c.loop-more-test.false

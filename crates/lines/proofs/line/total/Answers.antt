@@ -2,11 +2,11 @@
 use Rattle.std.proofs.Common.{◌≡◌, [], ap, drop, arith}
 use Rattle.std.proofs.Math.ListN.{drop_of_length-le}
 use Rattle.lines.specs.Lines.{total_of}
-use Rattle.lines.proofs.Rows.{next-width}
+use Rattle.lines.proofs.Rows.{next_width}
 use Rattle.lines.proofs.line.total.Goals as goal
 
 pub loop-k-preserved : goal.loop-k-preserved
-loop-k-preserved c = omega (arith, next-width c.args.widths c.loop-k.k (omega arith))
+loop-k-preserved c = omega (arith, next_width c.args.widths c.loop-k.k (omega arith))
 
 pub returns : goal.returns
 unfolding total_of

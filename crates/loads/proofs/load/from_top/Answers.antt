@@ -2,36 +2,36 @@
 use Rattle.std.proofs.Common.{arith, refl, lit≤, ◌≡◌}
 use Rattle.signed.specs.Word.{rd}
 use Rattle.plan.specs.Scaled.{back}
-use Rattle.loads.specs.Coming.{sumOut}
-use Rattle.loads.specs.Comes.{wider, difference-in, less-in, plus-in}
-use Rattle.loads.specs.Kept.{remain-in}
-use Rattle.loads.specs.Enter.{top-1, top-2, top-3, ended-as, reaches-as}
+use Rattle.loads.specs.Coming.{sum_out}
+use Rattle.loads.specs.Comes.{wider, difference_in, less_in, plus_in}
+use Rattle.loads.specs.Kept.{remain_in}
+use Rattle.loads.specs.Enter.{top_1, top_2, top_3, ended_as, reaches_as}
 use Rattle.loads.proofs.Read.{value, odd_low, remain_is, line_is, line_in, offset_is}
 use Rattle.loads.proofs.load.from_top.Goals as goal
 
 pub difference-rows-requires : goal.difference-rows-requires
 difference-rows-requires c =
     let h = c.requires.sound_pass in
-    (rw (rd c.ranges.lines) (wider 44 60 _ (lit≤ tt) c.requires.within), rw (remain_is c.args.p h) (wider 43 60 _ (lit≤ tt) (remain-in c.args.p.walk h.walk)))
+    (rw (rd c.ranges.lines) (wider 44 60 _ (lit≤ tt) c.requires.within), rw (remain_is c.args.p h) (wider 43 60 _ (lit≤ tt) (remain_in c.args.p.walk h.walk)))
 
 pub returns-in_default : goal.returns-in_default
 returns-in_default c =
     let p = c.args.p in
-    ended-as _ (top-1 p c.args.lines c.requires.remain_value _ refl (rw (offset_is p.scaled c.requires.sound_pass.scaled, c.in_default.is) at c.source_address.ensures))
+    ended_as _ (top_1 p c.args.lines c.requires.remain_value _ refl (rw (offset_is p.scaled c.requires.sound_pass.scaled, c.in_default.is) at c.source_address.ensures))
 
 pub returns-in_default-back : goal.returns-in_default-back
 returns-in_default-back c =
     let p = c.args.p in
     let h = c.requires.sound_pass in
     let odd = rw (remain_is p h) at c.rem_euclid-odd.ensures in
-    let b : sumOut c.back.result ≡ back p.scaled c.rem_euclid-odd.result c.in-At.first = c.back.ensures in
-    ended-as _ (top-2 p c.args.lines c.requires.remain_value _ odd _ (rw (offset_is p.scaled h.scaled, c.in-At.is) at c.source_address.ensures) (rw c.in_default-back.is at b))
+    let b : sum_out c.back.result ≡ back p.scaled c.rem_euclid-odd.result c.in-At.first = c.back.ensures in
+    ended_as _ (top_2 p c.args.lines c.requires.remain_value _ odd _ (rw (offset_is p.scaled h.scaled, c.in-At.is) at c.source_address.ensures) (rw c.in_default-back.is at b))
 
 pub less-requires : goal.less-requires
 less-requires c =
     let h = c.requires.sound_pass in
     let odd = rw (remain_is c.args.p h) at c.rem_euclid-odd.ensures in
-    (rw (remain_is c.args.p h) (wider 43 61 _ (lit≤ tt) (remain-in c.args.p.walk h.walk)), omega (arith, odd, odd_low c.args.p.walk.source.remain))
+    (rw (remain_is c.args.p h) (wider 43 61 _ (lit≤ tt) (remain_in c.args.p.walk h.walk)), omega (arith, odd, odd_low c.args.p.walk.source.remain))
 
 pub times-destination-requires : goal.times-destination-requires
 times-destination-requires c =
@@ -39,7 +39,7 @@ times-destination-requires c =
     let h = c.requires.sound_pass in
     let odd = rw (remain_is p h) at c.rem_euclid-odd.ensures in
     let even = value c.less.type_inv (rw (remain_is p h) at c.less.ensures) in
-    (rw even (wider 44 45 _ (lit≤ tt) (less-in 43 _ c.rem_euclid-odd.result (remain-in p.walk h.walk) (omega (arith, odd, odd_low p.walk.source.remain)))), omega (arith, h.scaled.line'))
+    (rw even (wider 44 45 _ (lit≤ tt) (less_in 43 _ c.rem_euclid-odd.result (remain_in p.walk h.walk) (omega (arith, odd, odd_low p.walk.source.remain)))), omega (arith, h.scaled.line'))
 
 pub plus-requires : goal.plus-requires
 plus-requires c =
@@ -47,7 +47,7 @@ plus-requires c =
     let h = c.requires.sound_pass in
     let odd = rw (remain_is p h) at c.rem_euclid-odd.ensures in
     let rows = value c.difference-rows.type_inv (rw (rd c.ranges.lines, remain_is p h) at c.difference-rows.ensures) in
-    (rw rows (wider 45 61 _ (lit≤ tt) (difference-in 44 _ _ c.requires.within (wider 43 44 _ (lit≤ tt) (remain-in p.walk h.walk)))), omega (arith, odd, odd_low p.walk.source.remain))
+    (rw rows (wider 45 61 _ (lit≤ tt) (difference_in 44 _ _ c.requires.within (wider 43 44 _ (lit≤ tt) (remain_in p.walk h.walk)))), omega (arith, odd, odd_low p.walk.source.remain))
 
 pub enter-requires-clause-within : goal.enter-requires-clause-within
 enter-requires-clause-within c =
@@ -55,9 +55,9 @@ enter-requires-clause-within c =
     let h = c.requires.sound_pass in
     let odd = rw (remain_is p h) at c.rem_euclid-odd.ensures in
     let rows = value c.difference-rows.type_inv (rw (rd c.ranges.lines, remain_is p h) at c.difference-rows.ensures) in
-    let rows-in = difference-in 44 _ _ c.requires.within (wider 43 44 _ (lit≤ tt) (remain-in p.walk h.walk)) in
+    let rows_in = difference_in 44 _ _ c.requires.within (wider 43 44 _ (lit≤ tt) (remain_in p.walk h.walk)) in
     let count = value c.plus.type_inv (rw rows at c.plus.ensures) in
-    (rw count (wider 46 47 _ (lit≤ tt) (plus-in 45 _ c.rem_euclid-odd.result rows-in (omega (arith, odd, odd_low p.walk.source.remain)))), rw (line_is p.scaled h.scaled) (wider 20 47 _ (lit≤ tt) (line_in p.scaled h.scaled)))
+    (rw count (wider 46 47 _ (lit≤ tt) (plus_in 45 _ c.rem_euclid-odd.result rows_in (omega (arith, odd, odd_low p.walk.source.remain)))), rw (line_is p.scaled h.scaled) (wider 20 47 _ (lit≤ tt) (line_in p.scaled h.scaled)))
 
 pub returns : goal.returns
 returns c =
@@ -68,6 +68,6 @@ returns c =
     let count = value c.plus.type_inv (rw rows at c.plus.ensures) in
     let even = value c.less.type_inv (rw (remain_is p h) at c.less.ensures) in
     let place = value c.times-destination.type_inv (rw even at c.times-destination.ensures) in
-    let b : sumOut c.back.result ≡ back p.scaled c.rem_euclid-odd.result c.in-At.first = c.back.ensures in
-    reaches-as (top-3 p c.args.lines c.requires.remain_value _ odd _ (rw (offset_is p.scaled h.scaled, c.in-At.is) at c.source_address.ensures) _ (rw c.in-At-back.is at b))
+    let b : sum_out c.back.result ≡ back p.scaled c.rem_euclid-odd.result c.in-At.first = c.back.ensures in
+    reaches_as (top_3 p c.args.lines c.requires.remain_value _ odd _ (rw (offset_is p.scaled h.scaled, c.in-At.is) at c.source_address.ensures) _ (rw c.in-At-back.is at b))
     (omega arith) (rw (count, place, line_is p.scaled h.scaled) at c.enter.ensures)

@@ -1,18 +1,18 @@
 -- The move is the definition's, and the law has the rest.
 use Rattle.std.proofs.Common.{lit≤}
 use Rattle.loads.specs.Comes.{wider}
-use Rattle.loads.specs.Kept.{remain-in, rows_in}
-use Rattle.loads.specs.Enter.{moved_to, moved-refused}
+use Rattle.loads.specs.Kept.{remain_in, rows_in}
+use Rattle.loads.specs.Enter.{moved_to, moved_refused}
 use Rattle.loads.proofs.Read.{rows_is}
 use Rattle.loads.proofs.load.moved.Goals as goal
 
 pub advance-requires-clause-within : goal.advance-requires-clause-within
 advance-requires-clause-within c =
     let p = c.args.p in
-    (wider 43 44 _ (lit≤ tt) (remain-in p.walk c.requires.walk), rw (rows_is p c.requires) (wider 43 44 _ (lit≤ tt) (rows_in p c.requires)))
+    (wider 43 44 _ (lit≤ tt) (remain_in p.walk c.requires.walk), rw (rows_is p c.requires) (wider 43 44 _ (lit≤ tt) (rows_in p c.requires)))
 
 pub returns-in-Overflow : goal.returns-in-Overflow
-returns-in-Overflow c = moved-refused c.args.p c.requires (rw (rows_is c.args.p c.requires, c.in-Overflow.is) at c.advance.ensures)
+returns-in-Overflow c = moved_refused c.args.p c.requires (rw (rows_is c.args.p c.requires, c.in-Overflow.is) at c.advance.ensures)
 
 pub returns-in-To : goal.returns-in-To
 returns-in-To c = moved_to c.args.p c.requires _ (rw (rows_is c.args.p c.requires, c.in-To.is) at c.advance.ensures)

@@ -1,6 +1,6 @@
 -- The rows from the top are the definition's branch.
 use Rattle.std.proofs.Common.{arith}
-use Rattle.loads.specs.Enter.{wraps-is, reaches-as}
+use Rattle.loads.specs.Enter.{wraps_is, reaches_as}
 use Rattle.loads.proofs.Read.{value, rows_is}
 use Rattle.loads.proofs.load.top.Goals as goal
 
@@ -10,4 +10,4 @@ from_top-requires-clause-remain_value c = rw (value c.plus.type_inv (rw (rows_is
 pub returns : goal.returns
 returns c =
     let load = value c.plus.type_inv (rw (rows_is c.args.p c.requires.sound_pass) at c.plus.ensures) in
-    reaches-as (wraps-is c.args.p c.requires.meets.0) (omega arith) (rw load at c.from_top.ensures)
+    reaches_as (wraps_is c.args.p c.requires.meets.0) (omega arith) (rw load at c.from_top.ensures)

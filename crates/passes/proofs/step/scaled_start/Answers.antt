@@ -6,30 +6,30 @@ use Rattle.measures.specs.Range.{Within}
 use Rattle.plan.specs.declared.types.Scaled.{Scaled}
 use Rattle.plan.specs.declared.types.First.{First}
 use Rattle.plan.specs.Sound.{SoundScaled, SoundFirst}
-use Rattle.loads.specs.Comes.{read-in}
+use Rattle.loads.specs.Comes.{read_in}
 use Rattle.loads.proofs.Read.{value}
-use Rattle.passes.specs.Given.{start-at, start-refused}
+use Rattle.passes.specs.Given.{start_at_lem, start_refused}
 use Rattle.passes.proofs.step.scaled_start.Goals as goal
 
 offset_low : (z : Scaled) (f : First) → SoundScaled z → SoundFirst z f → z.stride * f.image_row + z.x_offset < 2 ^ 63
 offset_low z f h g =
-    let r : f.image_row ≤ 16383 = omega (arith, g.image-row, h.source-rows') in
+    let r : f.image_row ≤ 16383 = omega (arith, g.image_row, h.source_rows') in
     let o : z.stride * f.image_row ≤ 65535 * 16383 = mul-le-mul h.stride' r in
-    omega (arith, h.x-offset)
+    omega (arith, h.x_offset)
 
 -- the first strip's signed numbers
 count_in : (z : Scaled) (f : First) → SoundFirst z f → Within 32 f.count
 count_in z f g = let a = g.count in let b = g.count' in record { low = omega zarith; high = omega zarith }
 
 rows_in : (z : Scaled) (f : First) → SoundFirst z f → Within 28 f.slice_rows
-rows_in z f g = let a = g.slice_rows in let b = g.slice-rows' in record { low = omega zarith; high = omega zarith }
+rows_in z f g = let a = g.slice_rows in let b = g.slice_rows' in record { low = omega zarith; high = omega zarith }
 
 pub returns-in_default : goal.returns-in_default
 returns-in_default c =
     let a = c.args in
     let h = c.requires in
     let offset = rdn (a.z.stride * a.f.image_row + a.z.x_offset) (offset_low a.z a.f h.sound_scaled h.sound_first.0) in
-    start-refused a.z a.c a.f h.sound_scaled h.sound_first.0 h.sound_first.1 (rw (offset, c.in_default.is) at c.source_address.ensures)
+    start_refused a.z a.c a.f h.sound_scaled h.sound_first.0 h.sound_first.1 (rw (offset, c.in_default.is) at c.source_address.ensures)
 
 pub returns : goal.returns
 returns c =
@@ -37,8 +37,8 @@ returns c =
     let h = c.requires.sound_scaled in
     let g = c.requires.sound_first.0 in
     let offset = rdn (a.z.stride * a.f.image_row + a.z.x_offset) (offset_low a.z a.f h g) in
-    let remain = value c.less-remain.type_inv (rw (rdn a.z.source_rows (omega (arith, h.source-rows'))) at c.less-remain.ensures) in
+    let remain = value c.less-remain.type_inv (rw (rdn a.z.source_rows (omega (arith, h.source_rows'))) at c.less-remain.ensures) in
     let left = rdn c.texels-left.result (omega (arith, c.texels-left.ensures, c.requires.sound_first.1.height)) in
-    let count = read-in 32 a.f.count (lit≤ tt) (count_in a.z a.f g) in
-    let rows = read-in 28 a.f.slice_rows (lit≤ tt) (rows_in a.z a.f g) in
-    start-at a.z a.c a.f h g c.requires.sound_first.1 _ c.in-At.pointer refl (cc (c.texels-left.ensures, c.texels-frame_y.ensures)) (rw (offset, c.in-At.is) at c.source_address.ensures)
+    let count = read_in 32 a.f.count (lit≤ tt) (count_in a.z a.f g) in
+    let rows = read_in 28 a.f.slice_rows (lit≤ tt) (rows_in a.z a.f g) in
+    start_at_lem a.z a.c a.f h g c.requires.sound_first.1 _ c.in-At.pointer refl (cc (c.texels-left.ensures, c.texels-frame_y.ensures)) (rw (offset, c.in-At.is) at c.source_address.ensures)

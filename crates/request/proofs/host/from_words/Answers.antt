@@ -3,7 +3,7 @@ use Rattle.std.proofs.Common.{◌≡◌, sym, ap, subst, ◌∙◌, get_or, Fits
 use Rattle.std.specs.Int.{w32}
 use Rattle.plan.specs.Whole.{plan_of}
 use Rattle.request.specs.declared.types.Request.{Request}
-use Rattle.request.specs.Host.{withBytes, hostRequest, requestKept, Alike}
+use Rattle.request.specs.Host.{with_bytes, host_request, request_kept, Alike}
 use Rattle.request.proofs.Cut.{cut, alike}
 use Rattle.request.proofs.host.from_words.Goals as goal
 
@@ -14,7 +14,7 @@ returns c =
     let b : FitsSigned w32 c.edge-2.result = search rules in
     let d : FitsSigned w32 c.edge-3.result = search rules in
     let e : FitsSigned w32 c.edge-4.result = search rules in
-    let kept : _ ≡ requestKept ws =
+    let kept : _ ≡ request_kept ws =
     λ i.
     record {
       opcode = c.opcode.ensures i;
@@ -28,6 +28,6 @@ returns c =
       address = get_or ws 6 0;
     } in
     record {
-      plan = λ bytes. ap (λ (r : Request). plan_of (withBytes bytes r)) kept ∙ cut bytes ws;
-      alike = λ bytes. subst (λ (r : Request). Alike (withBytes bytes r) (hostRequest bytes ws)) (sym kept) (alike bytes ws);
+      plan = λ bytes. ap (λ (r : Request). plan_of (with_bytes bytes r)) kept ∙ cut bytes ws;
+      alike = λ bytes. subst (λ (r : Request). Alike (with_bytes bytes r) (host_request bytes ws)) (sym kept) (alike bytes ws);
     }

@@ -1,11 +1,11 @@
 -- Each call gives one field; an edge of two bytes reads back as the number that it is.
 use Rattle.std.proofs.Common.{◌∙◌, FitsSigned, rules, to_z-of_z}
 use Rattle.std.specs.Int.{w32}
-use Rattle.request.specs.Stored.{askedAt}
+use Rattle.request.specs.Stored.{asked_at}
 use Rattle.request.proofs.stored.asked.Goals as goal
 
 pub returns : goal.returns
-unfolding askedAt
+unfolding asked_at
 returns c =
     let a : FitsSigned w32 c.edge.result = search rules in
     let b : FitsSigned w32 c.edge-2.result = search rules in

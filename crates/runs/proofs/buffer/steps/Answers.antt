@@ -1,11 +1,11 @@
 -- What is given and what is to come make up the plan, until the end or a full buffer; the bank waits for the end.
 use Rattle.std.proofs.Common.{refl, ap, ◌∙◌, ◌*◌, arith}
 use Rattle.words.specs.declared.count.Counts.{Counts}
-use Rattle.words.specs.Counts.{endWith}
-use Rattle.giving.specs.Host.{wordsAfter}
+use Rattle.words.specs.Counts.{end_with}
+use Rattle.giving.specs.Host.{words_after}
 use Rattle.planner.specs.declared.types.Given.TheVariants as given
-use Rattle.planner.specs.Step.{gave-fewer}
-use Rattle.runs.specs.Ran.{next_place, going_start, going_more, going-places, at_in, steps-end, steps-full}
+use Rattle.planner.specs.Step.{gave_fewer}
+use Rattle.runs.specs.Ran.{next_place, going_start, going_more, going_places, at_in, steps_end, steps_full}
 use Rattle.runs.proofs.buffer.steps.Goals as goal
 use Rattle.runs.proofs.buffer.steps.Goals.{in-Entry+then-plan-at-lt11, in-End}
 
@@ -13,7 +13,7 @@ pub loop-entry-init : goal.loop-entry-init
 loop-entry-init c = (rw c.no_places-places.ensures (going_start _ _ c.requires.0 c.requires.1 _ c.requires.2 _), (c.stride-stride.ensures, (refl, refl)))
 
 pub loop-entry-smaller : goal.loop-entry-smaller
-loop-entry-smaller c = gave-fewer c.loop-entry.p c.step-s.result c.step-s.ensures _ c.in-Entry.is
+loop-entry-smaller c = gave_fewer c.loop-entry.p c.step-s.result c.step-s.ensures _ c.in-Entry.is
 
 pub loop-entry-preserved : goal.loop-entry-preserved
 loop-entry-preserved c =
@@ -24,23 +24,23 @@ loop-entry-preserved c =
     (going_more _ _ _ _ _ _ _ _ i.0 c.step-s.result c.step-s.ensures _ c.in-Entry.is _ _ _ _ g.ensures.0 g.ensures.1 g.ensures.2 place (omega (arith, w, c.if-plan-at-lt11.false)), i.1)
 
 pub settled-requires : goal.settled-requires
-settled-requires c = going-places _ c.loop-entry.invariant.0
+settled-requires c = going_places _ c.loop-entry.invariant.0
 
 pub returns-in-Refused : goal.returns-in-Refused
-unfolding wordsAfter
+unfolding words_after
 returns-in-Refused c =
     let i = c.loop-entry.invariant in
-    steps-end _ _ _ _ _ _ _ _ _ c.step-s.result c.step-s.ensures _ i.0 (given.Refused _ _) c.in-Refused.is _ refl (rw i.1.1.0 at c.settled.ensures) _ c.set_words.ensures _ c.end_of.ensures
+    steps_end _ _ _ _ _ _ _ _ _ c.step-s.result c.step-s.ensures _ i.0 (given.Refused _ _) c.in-Refused.is _ refl (rw i.1.1.0 at c.settled.ensures) _ c.set_words.ensures _ c.end_of.ensures
 
 pub settled-requires-2 : goal.settled-requires-2
-settled-requires-2 c = going-places _ c.loop-entry.invariant.0
+settled-requires-2 c = going_places _ c.loop-entry.invariant.0
 
 pub returns : goal.returns
-unfolding wordsAfter
+unfolding words_after
 returns c =
     let i = c.loop-entry.invariant in
     let bank = rw i.1.1.0 at c.settled-2.ensures in
     elim c.match-given.branch [
-      | in-Entry+then-plan-at-lt11 w ↦ steps-full _ _ _ _ _ _ _ _ _ c.step-s.result c.step-s.ensures _ i.0 _ w.in-Entry.is w.if-plan-at-lt11.true bank _ (c.end_of-2.ensures ∙ ap (endWith c.loop-entry.n) (w.verdict-is ∙ i.1.1.1))
-      | in-End w ↦ steps-end _ _ _ _ _ _ _ _ _ c.step-s.result c.step-s.ensures _ i.0 (given.End _) w.in-End.is _ refl bank _ refl _ (c.end_of-2.ensures ∙ ap (endWith c.loop-entry.n) w.verdict-is)
+      | in-Entry+then-plan-at-lt11 w ↦ steps_full _ _ _ _ _ _ _ _ _ c.step-s.result c.step-s.ensures _ i.0 _ w.in-Entry.is w.if-plan-at-lt11.true bank _ (c.end_of-2.ensures ∙ ap (end_with c.loop-entry.n) (w.verdict-is ∙ i.1.1.1))
+      | in-End w ↦ steps_end _ _ _ _ _ _ _ _ _ c.step-s.result c.step-s.ensures _ i.0 (given.End _) w.in-End.is _ refl bank _ refl _ (c.end_of-2.ensures ∙ ap (end_with c.loop-entry.n) w.verdict-is)
     ]

@@ -1,10 +1,10 @@
 -- The fields are the definition's, and the law of its range carries over.
 use Rattle.std.proofs.Common.{◌≡◌, sym, ap, ◌∙◌, subst, ◌%◌, eqb}
 use Rattle.plan.specs.declared.types.Clip.{Clip}
-use Rattle.plan.specs.Scaled.{clipOf, scaledEmpty}
+use Rattle.plan.specs.Scaled.{clip_of, scaled_empty}
 use Rattle.scaled.specs.Range.{Filled}
-use Rattle.scaled.specs.Clip.{greatest, removed, kept, lower, moved, nearCut, farCut, start_at, rest_of}
-use Rattle.scaled.specs.ClipLaw.{clip-filled}
+use Rattle.scaled.specs.Clip.{greatest, removed, kept, lower, moved, near_cut, far_cut, start_at, rest_of}
+use Rattle.scaled.specs.ClipLaw.{clip_filled}
 use Rattle.scaled.proofs.clip.clip_of.Goals as goal
 use Rattle.scaled.proofs.clip.clip_of.Goals.{After-down-vertical}
 
@@ -14,8 +14,8 @@ clip c =
     let v = c.down-vertical.result in
     record { flip = eqb (c.args.bg.image_flip % 2) 1; left = h.near; top = v.near; right = h.far; x = h.start; y = v.start; width = h.rest; height = v.rest }
 
-is : (c : After-down-vertical) → clip c ≡ clipOf c.args.bg c.args.scissor
-unfolding clipOf greatest removed kept lower moved nearCut farCut start_at rest_of
+is : (c : After-down-vertical) → clip c ≡ clip_of c.args.bg c.args.scissor
+unfolding clip_of greatest removed kept lower moved near_cut far_cut start_at rest_of
 is c =
     let h = c.across-horizontal.ensures in
     let v = c.down-vertical.ensures in
@@ -24,4 +24,4 @@ is c =
 pub returns : goal.returns
 returns c =
     let i = is (goal.at.returns c).After-down-vertical in
-    record { is = i; filled = λ e. subst Filled (sym i) (clip-filled _ _ c.requires (sym (ap scaledEmpty i) ∙ e)) }
+    record { is = i; filled = λ e. subst Filled (sym i) (clip_filled _ _ c.requires (sym (ap scaled_empty i) ∙ e)) }

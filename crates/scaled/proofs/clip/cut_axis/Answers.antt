@@ -4,7 +4,7 @@ use Rattle.std.specs.Int.{w64}
 use Rattle.signed.specs.Diff.{zdiff, zarith}
 use Rattle.signed.specs.Word.{rd}
 use Rattle.measures.specs.Measure.{quarters}
-use Rattle.scaled.specs.Clip.{nearCut, farCut, start_at, rest_of}
+use Rattle.scaled.specs.Clip.{near_cut, far_cut, start_at, rest_of}
 use Rattle.scaled.proofs.clip.cut_axis.Goals as goal
 
 pub returns : goal.returns
@@ -16,11 +16,11 @@ returns c =
     let f' = rw f at c.far_cut-far.ensures.result_bound in
     let rx : SFits w64 c.args.x.0 = omega zarith in
     let re : SFits w64 c.args.extent.0 = omega zarith in
-    let rn : SFits w64 (pos (nearCut c.args.x.0 (quarters c.args.ul))) = omega zarith in
-    let rf : SFits w64 (pos (farCut c.args.x.0 c.args.extent.0 (quarters c.args.lr))) = omega zarith in
-    let rs : SFits w64 (c.args.x.0 +ℤ pos (nearCut c.args.x.0 (quarters c.args.ul))) = simp zdiff (omega zarith) in
-    let rb : SFits w64 (pos (nearCut c.args.x.0 (quarters c.args.ul) + farCut c.args.x.0 c.args.extent.0 (quarters c.args.lr))) = omega zarith in
-    let rr : SFits w64 (c.args.extent.0 -ℤ pos (nearCut c.args.x.0 (quarters c.args.ul) + farCut c.args.x.0 c.args.extent.0 (quarters c.args.lr))) = simp zdiff (omega zarith) in
+    let rn : SFits w64 (pos (near_cut c.args.x.0 (quarters c.args.ul))) = omega zarith in
+    let rf : SFits w64 (pos (far_cut c.args.x.0 c.args.extent.0 (quarters c.args.lr))) = omega zarith in
+    let rs : SFits w64 (c.args.x.0 +ℤ pos (near_cut c.args.x.0 (quarters c.args.ul))) = simp zdiff (omega zarith) in
+    let rb : SFits w64 (pos (near_cut c.args.x.0 (quarters c.args.ul) + far_cut c.args.x.0 c.args.extent.0 (quarters c.args.lr))) = omega zarith in
+    let rr : SFits w64 (c.args.extent.0 -ℤ pos (near_cut c.args.x.0 (quarters c.args.ul) + far_cut c.args.x.0 c.args.extent.0 (quarters c.args.lr))) = simp zdiff (omega zarith) in
     record {
       near = n;
       far = f;

@@ -5,7 +5,7 @@ use Rattle.signed.specs.Diff.{zdiff, zparts, zarith}
 use Rattle.signed.specs.Word.{rd}
 use Rattle.measures.specs.Measure.{quarters, extent}
 use Rattle.measures.specs.Range.{counted}
-use Rattle.scaled.specs.Clip.{farCut}
+use Rattle.scaled.specs.Clip.{far_cut}
 use Rattle.scaled.proofs.clip.far_cut.Goals as goal
 use Rattle.scaled.proofs.clip.far_cut.Goals.{After-extent}
 
@@ -19,7 +19,7 @@ cut c =
     rw (rd t, rd l, rd d, rd x, rd s) at c.extent.ensures
 
 pub returns-clause-value : goal.returns-clause-value
-unfolding farCut
+unfolding far_cut
 returns-clause-value c =
     let g : c.args.extent.0 -ℤ c.args.lr.0 +ℤ c.args.x.0 ≡ c.args.extent.0 -ℤ pos (quarters c.args.lr) +ℤ c.args.x.0 = rw (counted c.requires.below.0.low) in
     cut c ∙ ap extent g

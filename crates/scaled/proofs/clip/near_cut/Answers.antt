@@ -4,11 +4,11 @@ use Rattle.std.specs.Int.{w64}
 use Rattle.signed.specs.Diff.{zdiff, zarith}
 use Rattle.signed.specs.Word.{rd}
 use Rattle.measures.specs.Range.{counted}
-use Rattle.scaled.specs.Clip.{nearCut}
+use Rattle.scaled.specs.Clip.{near_cut}
 use Rattle.scaled.proofs.clip.near_cut.Goals as goal
 
 pub returns-clause-value : goal.returns-clause-value
-unfolding nearCut
+unfolding near_cut
 returns-clause-value c =
     let u : SFits w64 c.args.ul.0 = omega zarith in
     let x : SFits w64 c.args.x.0 = omega zarith in

@@ -3,7 +3,7 @@ use Rattle.std.proofs.Common.{ap, ◌+ℤ◌, SFits}
 use Rattle.std.specs.Int.{w64}
 use Rattle.signed.specs.Diff.{zdiff, zarith}
 use Rattle.signed.specs.Word.{rd}
-use Rattle.measures.specs.Measure.{inQuarters}
+use Rattle.measures.specs.Measure.{in_quarters}
 use Rattle.measures.specs.Range.{counted}
 use Rattle.scaled.specs.Clip.{moved}
 use Rattle.scaled.specs.Number.{add_nothing}
@@ -19,4 +19,4 @@ returns-then-flip-clause-value c =
 
 pub returns-else-flip-clause-value : goal.returns-else-flip-clause-value
 unfolding moved
-returns-else-flip-clause-value c = rw c.if-flip.false (ap inQuarters (add_nothing c.args.frame_x.0))
+returns-else-flip-clause-value c = rw c.if-flip.false (ap in_quarters (add_nothing c.args.frame_x.0))

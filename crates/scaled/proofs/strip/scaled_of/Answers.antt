@@ -3,12 +3,12 @@ use Rattle.std.proofs.Common.{◌≡◌, sym, ap, subst, ◌∙◌, ◌+ℤ◌, 
 use Rattle.std.specs.Int.{w64}
 use Rattle.signed.specs.Diff.{zdiff, zarith}
 use Rattle.signed.specs.Word.{rd}
-use Rattle.measures.specs.Measure.{inQuarters}
+use Rattle.measures.specs.Measure.{in_quarters}
 use Rattle.plan.specs.declared.types.Scaled.{Scaled}
-use Rattle.plan.specs.Scaled.{scaledOf, slicesBad}
+use Rattle.plan.specs.Scaled.{scaled_of, slices_bad}
 use Rattle.plan.specs.Sound.{SoundScaled}
-use Rattle.scaled.specs.Strip.{shift_of, maxSlice, line_of, splitOf, sOf}
-use Rattle.scaled.specs.StripLaw.{scaled-sound}
+use Rattle.scaled.specs.Strip.{shift_of, max_slice, line_of, split_of, s_of}
+use Rattle.scaled.specs.StripLaw.{scaled_sound}
 use Rattle.scaled.proofs.strip.scaled_of.Goals as goal
 use Rattle.scaled.proofs.strip.scaled_of.Goals.{After-low8-palette}
 
@@ -23,7 +23,7 @@ scaled c =
       palette = c.low8-palette.result;
       address = a.address;
       x = a.c.x;
-      x_end = inQuarters (to_z w64 (of_z w64 (to_z w64 (of_z w64 a.c.x.0) +ℤ to_z w64 (of_z w64 a.c.width.0))));
+      x_end = in_quarters (to_z w64 (of_z w64 (to_z w64 (of_z w64 a.c.x.0) +ℤ to_z w64 (of_z w64 a.c.width.0))));
       scale_w = a.bg.scale_w;
       scale_h = a.bg.scale_h;
       bilerp = c.bilerp_of-bilerp.result;
@@ -46,8 +46,8 @@ end_is c =
     let s : SFits w64 (c.args.c.x.0 +ℤ c.args.c.width.0) = simp zdiff (omega zarith) in
     rw (rd x, rd w, rd s)
 
-is : (c : After-low8-palette) → scaled c ≡ scaledOf c.args.bg c.args.mode c.args.address c.args.c c.args.i
-unfolding scaledOf shift_of maxSlice line_of splitOf sOf
+is : (c : After-low8-palette) → scaled c ≡ scaled_of c.args.bg c.args.mode c.args.address c.args.c c.args.i
+unfolding scaled_of shift_of max_slice line_of split_of s_of
 is c =
     let a = c.args in
     let l = c.bilerp_of-bilerp.ensures.value in
@@ -59,21 +59,21 @@ is c =
       palette = c.low8-palette.ensures j;
       address = a.address;
       x = a.c.x;
-      x_end = inQuarters (end_is c j);
+      x_end = in_quarters (end_is c j);
       scale_w = a.bg.scale_w;
       scale_h = a.bg.scale_h;
       bilerp = l j;
       split = k.split j;
-      source_rows = r.source-rows j;
+      source_rows = r.source_rows j;
       line = r.line j;
-      image_rows = r.image-rows j;
-      frame_rows = r.frame-rows j;
+      image_rows = r.image_rows j;
+      frame_rows = r.frame_rows j;
       stride = k.stride j;
-      x_offset = k.x-offset j;
+      x_offset = k.x_offset j;
       s = k.s j;
     }
 
 pub returns : goal.returns
 returns c =
     let i = is (goal.at.returns c).After-low8-palette in
-    record { is = i; sound = λ e. subst SoundScaled (sym i) (scaled-sound c.args.bg c.args.mode c.args.address c.args.c c.args.i c.requires.usable c.requires.filled c.requires.start_in (sym (ap slicesBad i) ∙ e)) }
+    record { is = i; sound = λ e. subst SoundScaled (sym i) (scaled_sound c.args.bg c.args.mode c.args.address c.args.c c.args.i c.requires.usable c.requires.filled c.requires.start_in (sym (ap slices_bad i) ∙ e)) }

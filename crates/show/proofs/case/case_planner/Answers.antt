@@ -1,30 +1,30 @@
 -- A fresh planner has its request's whole plan to come, and the plan of no object is the short case's.
 use Rattle.std.proofs.Common.{sym, ap, ◌∙◌, arith, length-take-le}
 use Rattle.plan.specs.Request.{Request}
-use Rattle.plan.specs.Steps.{comingOf}
-use Rattle.checks.specs.Check.{checkedOf}
-use Rattle.plan.specs.Whole.{plan_of, checkedOut}
-use Rattle.request.specs.Stored.{request-of, short-of}
-use Rattle.show.specs.Case.{case-long, case-short}
+use Rattle.plan.specs.Steps.{coming_of}
+use Rattle.checks.specs.Check.{checked_of}
+use Rattle.plan.specs.Whole.{plan_of, checked_out}
+use Rattle.request.specs.Stored.{request_of, short_of}
+use Rattle.show.specs.Case.{case_long, case_short}
 use Rattle.show.proofs.case.case_planner.Goals as goal
 
 pub slice_bounds-fresh-end : goal.slice_bounds-fresh-end
-slice_bounds-fresh-end c = let bs = c.args.bytes.now in sym (length-take-le _ bs (omega (arith, (request-of bs c.in-Request.q c.in-Request.ensures).0)))
+slice_bounds-fresh-end c = let bs = c.args.bytes.now in sym (length-take-le _ bs (omega (arith, (request_of bs c.in-Request.q c.in-Request.ensures).0)))
 
 pub returns-in-Request : goal.returns-in-Request
 returns-in-Request c =
     let bs = c.args.bytes.now in
-    let i = request-of bs c.in-Request.q c.in-Request.ensures in
+    let i = request_of bs c.in-Request.q c.in-Request.ensures in
     record {
-      coming = c.fresh.ensures.coming ∙ ap (λ (r : Request). comingOf (plan_of r)) (i.1 40) ∙ ap comingOf (sym (case-long bs i.0));
+      coming = c.fresh.ensures.coming ∙ ap (λ (r : Request). coming_of (plan_of r)) (i.1 40) ∙ ap coming_of (sym (case_long bs i.0));
       sound = c.fresh.ensures.sound;
     }
 
 pub returns-in-Short : goal.returns-in-Short
-unfolding plan_of checkedOut checkedOf
+unfolding plan_of checked_out checked_of
 returns-in-Short c =
-    let i = short-of c.args.bytes.now c.in-Short.ensures in
+    let i = short_of c.args.bytes.now c.in-Short.ensures in
     record {
-      coming = c.fresh-in-Short.ensures.coming ∙ ap comingOf (sym (case-short c.args.bytes.now i));
+      coming = c.fresh-in-Short.ensures.coming ∙ ap coming_of (sym (case_short c.args.bytes.now i));
       sound = c.fresh-in-Short.ensures.sound;
     }

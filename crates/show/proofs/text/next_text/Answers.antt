@@ -1,14 +1,14 @@
 -- Nothing stands before the first line; then each line follows the text, until there is no room for another or the end's is written.
 use Rattle.std.proofs.Common.{refl, inl, inr}
 use Rattle.planner.specs.declared.types.Given.TheVariants as given
-use Rattle.show.proofs.Going.{going_start, going-full, going_more, going_end}
+use Rattle.show.proofs.Going.{going_start, going_full, going_more, going_end}
 use Rattle.show.proofs.text.next_text.Goals as goal
 
 pub loop-out-init : goal.loop-out-init
 loop-out-init c = going_start c.args.start c.requires c.args.out.now
 
 pub returns-then-out-count-lt-LINE : goal.returns-then-out-count-lt-LINE
-returns-then-out-count-lt-LINE c = going-full _ _ _ _ _ c.loop-out.invariant c.if-out-count-lt-LINE.true
+returns-then-out-count-lt-LINE c = going_full _ _ _ _ _ c.loop-out.invariant c.if-out-count-lt-LINE.true
 
 pub loop-out-preserved : goal.loop-out-preserved
 loop-out-preserved c =

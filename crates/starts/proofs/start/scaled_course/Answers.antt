@@ -6,28 +6,28 @@ use Rattle.plan.specs.declared.types.Clip.{Clip}
 use Rattle.plan.specs.declared.types.First.{First}
 use Rattle.plan.specs.declared.types.Scaled.{Scaled}
 use Rattle.plan.specs.declared.types.Start.{Start}
-use Rattle.plan.specs.Out.{planOut}
-use Rattle.plan.specs.Scaled.{clipOf, scaledEmpty, start_of, scaledOf, slicesBad, first_of, scaledPlan}
+use Rattle.plan.specs.Out.{plan_out}
+use Rattle.plan.specs.Scaled.{clip_of, scaled_empty, start_of, scaled_of, slices_bad, first_of, scaled_plan}
 use Rattle.loads.specs.declared.types.Reached.{Reached}
 use Rattle.loads.specs.Sound.{Reaches}
-use Rattle.planner.specs.Coming.{StartsScaled, courseOf}
-use Rattle.starts.specs.Start.{scaled-none, scaled-bad, scaled-begins}
+use Rattle.planner.specs.Coming.{StartsScaled, course_of}
+use Rattle.starts.specs.Start.{scaled_none, scaled_bad, scaled_begins}
 use Rattle.starts.proofs.start.scaled_course.Goals as goal
 
-begun : (bg : ObjBg) (s : Scissor) (mode address : ℕ) (c : Clip) (i : Start) (z : Scaled) (f : First) (r : Reached) → c ≡ clipOf bg s → i ≡ start_of bg c → z ≡ scaledOf bg mode address c i → f ≡ first_of z i
-    → scaledEmpty c ≡ false → slicesBad z ≡ false → Reaches (planOut (scaledPlan z c f)) 16384 r → StartsScaled bg s mode address (courseOf r)
-begun bg s mode address c i z f r k j l m t u g = scaled-begins bg s mode address (rw k at t) (rw (l, j, k) at u) r (rw (m, l, j, k) at g)
+begun : (bg : ObjBg) (s : Scissor) (mode address : ℕ) (c : Clip) (i : Start) (z : Scaled) (f : First) (r : Reached) → c ≡ clip_of bg s → i ≡ start_of bg c → z ≡ scaled_of bg mode address c i → f ≡ first_of z i
+    → scaled_empty c ≡ false → slices_bad z ≡ false → Reaches (plan_out (scaled_plan z c f)) 16384 r → StartsScaled bg s mode address (course_of r)
+begun bg s mode address c i z f r k j l m t u g = scaled_begins bg s mode address (rw k at t) (rw (l, j, k) at u) r (rw (m, l, j, k) at g)
 
 pub returns-then-clip_empty : goal.returns-then-clip_empty
 returns-then-clip_empty c =
     let a = c.args in
-    scaled-none a.bg a.scissor a.mode a.address (rw c.clip_of-c.ensures.is at (sym c.clip_empty.ensures ∙ c.if-clip_empty.true))
+    scaled_none a.bg a.scissor a.mode a.address (rw c.clip_of-c.ensures.is at (sym c.clip_empty.ensures ∙ c.if-clip_empty.true))
 
 pub returns-then-slices_bad : goal.returns-then-slices_bad
 returns-then-slices_bad c =
     let a = c.args in
     let k = c.clip_of-c.ensures.is in
-    scaled-bad a.bg a.scissor a.mode a.address (rw k at (sym c.clip_empty.ensures ∙ c.if-clip_empty.false))
+    scaled_bad a.bg a.scissor a.mode a.address (rw k at (sym c.clip_empty.ensures ∙ c.if-clip_empty.false))
     (rw (c.scaled_of-z.ensures.is, c.start_of-i.ensures.is, k) at (sym c.slices_bad.ensures ∙ c.if-slices_bad.true))
 
 pub returns-in-At : goal.returns-in-At

@@ -1,16 +1,16 @@
 -- Where there is no tile of that number the definition leaves the list as it is, since a bank has eight tiles.
 use Rattle.std.proofs.Common.{◌≤◌, length, arith}
 use Rattle.std.proofs.Math.Seq.{set_out}
-use Rattle.tile.specs.Bank.{setSize}
+use Rattle.tile.specs.Bank.{set_size}
 use Rattle.tile.proofs.Known.{eight}
 use Rattle.tile.proofs.bank.with_tile_size.Goals as goal
 
 pub returns-then-index-ge8 : goal.returns-then-index-ge8
-unfolding setSize
+unfolding set_size
 returns-then-index-ge8 c =
     let h : length c.args.bank.tiles ≤ c.args.index = omega (arith, eight c.args.bank c.well_formed.0) in
     simp set_out
 
 pub returns : goal.returns
-unfolding setSize
+unfolding set_size
 returns c = simp c.resized.ensures

@@ -4,26 +4,26 @@ use Rattle.std.specs.Int.{w64}
 use mir.Val.{SFits}
 use Rattle.signed.specs.Diff.{zarith}
 use Rattle.signed.specs.Word.{rd, rdn}
-use Rattle.measures.specs.Range.{Within, below-read}
+use Rattle.measures.specs.Range.{Within, below_read}
 use Rattle.loads.specs.declared.types.Place.{Place}
-use Rattle.loads.specs.Comes.{fits, difference-in}
-use Rattle.loads.specs.Kept.{remain-in}
+use Rattle.loads.specs.Comes.{fits, difference_in}
+use Rattle.loads.specs.Kept.{remain_in}
 use Rattle.loads.specs.Sound.{SoundPass}
 use Rattle.loads.proofs.Read.{value, remain_is}
-use Rattle.walks.specs.Going.{lines-low}
+use Rattle.walks.specs.Going.{lines_low}
 use Rattle.walks.proofs.entry.rect.Goals as goal
 
 -- the rows above the source's row, and the line after the pass
 rows_fit : (p : Place) → SoundPass p → SFits w64 (pos p.scaled.source_rows -ℤ p.walk.source.remain)
 rows_fit p h =
-    let n : Within 43 (pos p.scaled.source_rows) = record { low = omega zarith; high = omega (zarith, h.scaled.source-rows') } in
-    fits 44 _ (lit≤ tt) (difference-in 43 _ p.walk.source.remain n (remain-in p.walk h.walk))
+    let n : Within 43 (pos p.scaled.source_rows) = record { low = omega zarith; high = omega (zarith, h.scaled.source_rows') } in
+    fits 44 _ (lit≤ tt) (difference_in 43 _ p.walk.source.remain n (remain_in p.walk h.walk))
 
 end_low : (p : Place) → SoundPass p → p.walk.frame_y + p.lines ≤ 2 ^ 22
-end_low p h = omega (arith, h.walk.frame-y, lines-low p h)
+end_low p h = omega (arith, h.walk.frame_y, lines_low p h)
 
 source_low : (p : Place) → SoundPass p → p.scaled.source_rows < 2 ^ 63
-source_low p h = omega (arith, h.scaled.source-rows')
+source_low p h = omega (arith, h.scaled.source_rows')
 
 pub overflow_sub-rows : goal.overflow_sub-rows
 overflow_sub-rows c = rw (rdn c.args.p.scaled.source_rows (source_low c.args.p c.requires), remain_is c.args.p c.requires) (rows_fit c.args.p c.requires)
@@ -41,8 +41,8 @@ returns c =
     let h = c.requires in
     let s : SFits w64 z.s.0 = record { sfits = omega arith } in
     let us = value c.short.type_inv (rw (rd s) at c.short.ensures) in
-    let ut = value c.short-2.type_inv (rw (below-read (lit≤ tt) h.walk.t) at c.short-2.ensures) in
-    let dx = value c.short-3.type_inv (rw (rdn z.scale_w.0 (omega (arith, h.scaled.scale-w'))) at c.short-3.ensures) in
-    let dy = value c.short-4.type_inv (rw (rdn z.scale_h.0 (omega (arith, h.scaled.scale-h'))) at c.short-4.ensures) in
+    let ut = value c.short-2.type_inv (rw (below_read (lit≤ tt) h.walk.t) at c.short-2.ensures) in
+    let dx = value c.short-3.type_inv (rw (rdn z.scale_w.0 (omega (arith, h.scaled.scale_w'))) at c.short-3.ensures) in
+    let dy = value c.short-4.type_inv (rw (rdn z.scale_h.0 (omega (arith, h.scaled.scale_h'))) at c.short-4.ensures) in
     let row = rw (rdn z.source_rows (source_low p h), remain_is p h, rd (rows_fit p h)) at c.wrapped.ensures in
     rw (c.position.ensures, c.line_at.ensures, c.position-2.ensures, c.line_at-2.ensures, us, ut, dx, dy, row)

@@ -5,15 +5,15 @@ use Rattle.measures.specs.Measure.{whole}
 use Rattle.measures.specs.Range.{Within}
 use Rattle.plan.specs.declared.types.Scaled.{Scaled}
 use Rattle.plan.specs.Sound.{SoundScaled}
-use Rattle.loads.specs.Comes.{wider, times-in, floor-in, sum-in}
+use Rattle.loads.specs.Comes.{wider, times_in, floor_in, sum_in}
 use Rattle.loads.proofs.Read.{value}
 use Rattle.walks.proofs.walk.cut_rows.Goals as goal
 
-over-in : (z : Scaled) (left : ℤ) → SoundScaled z → Within 40 left → Within 56 (whole (left *ℤ pos z.scale_h.0))
-over-in z left h w = floor-in 56 _ 1024 (times-in 40 16 left z.scale_h.0 w h.scale-h')
+over_in : (z : Scaled) (left : ℤ) → SoundScaled z → Within 40 left → Within 56 (whole (left *ℤ pos z.scale_h.0))
+over_in z left h w = floor_in 56 _ 1024 (times_in 40 16 left z.scale_h.0 w h.scale_h')
 
 few : (z : Scaled) → SoundScaled z → z.image_rows < 2 ^ 63
-few z h = omega (arith, h.image-rows')
+few z h = omega (arith, h.image_rows')
 
 pub plus-cut-requires : goal.plus-cut-requires
 plus-cut-requires c =
@@ -21,7 +21,7 @@ plus-cut-requires c =
     let product = value c.times.type_inv (rw (rd c.ranges.left) at c.times.ensures) in
     let over = value c.signed_whole-over.type_inv (rw product at c.signed_whole-over.ensures) in
     let rows = value c.sum.type_inv (rw (rd c.ranges.rows, over) at c.sum.ensures) in
-    (rw rows (wider 57 61 _ (lit≤ tt) (sum-in 56 _ _ (wider 43 56 _ (lit≤ tt) w.0) (over-in c.args.z c.args.left c.requires.sound_scaled w.1))), lit≤ tt)
+    (rw rows (wider 57 61 _ (lit≤ tt) (sum_in 56 _ _ (wider 43 56 _ (lit≤ tt) w.0) (over_in c.args.z c.args.left c.requires.sound_scaled w.1))), lit≤ tt)
 
 pub returns-then-cut-most : goal.returns-then-cut-most
 returns-then-cut-most c =

@@ -1,42 +1,42 @@
 -- The walk after a pass, by its numbers.
 use Rattle.std.proofs.Common.{arith, lit<, lit≤, ◌<◌}
 use Rattle.signed.specs.Diff.{zarith}
-use Rattle.signed.specs.Floor.{modulo, modulo-lt}
+use Rattle.signed.specs.Floor.{modulo, modulo_lt}
 use Rattle.signed.specs.Word.{rdn}
 use Rattle.plan.specs.declared.types.Walk.{Walk}
-use Rattle.loads.specs.Comes.{wider, read-in}
+use Rattle.loads.specs.Comes.{wider, read_in}
 use Rattle.loads.proofs.Read.{value}
-use Rattle.walks.specs.Going.{count-in, remain-line, lines-low}
+use Rattle.walks.specs.Going.{count_in, remain_line, lines_low}
 use Rattle.walks.proofs.walk.drawn.Goals as goal
 
-low-lt : (w : Walk) → modulo w.count 1024 < 1024
-low-lt w = modulo-lt w.count {m = 1024} (lit< tt)
+low_lt : (w : Walk) → modulo w.count 1024 < 1024
+low_lt w = modulo_lt w.count {m = 1024} (lit< tt)
 
 pub less-left-requires : goal.less-left-requires
 less-left-requires c =
-    let f = remain-line c.args.p c.requires.pass in
-    (rw (read-in 32 _ (lit≤ tt) f) (wider 32 61 _ (lit≤ tt) f), omega (arith, c.lines_due-draw.ensures.1))
+    let f = remain_line c.args.p c.requires.pass in
+    (rw (read_in 32 _ (lit≤ tt) f) (wider 32 61 _ (lit≤ tt) f), omega (arith, c.lines_due-draw.ensures.1))
 
 pub overflow_add-y : goal.overflow_add-y
-overflow_add-y c = record { fits = omega (arith, c.requires.pass.walk.frame-y, lines-low c.args.p c.requires.pass) }
+overflow_add-y c = record { fits = omega (arith, c.requires.pass.walk.frame_y, lines_low c.args.p c.requires.pass) }
 
 pub overflow_cast-count : goal.overflow_cast-count
 overflow_cast-count c =
-    let low = rw (read-in 32 _ (lit≤ tt) (count-in c.args.p.walk c.requires.pass.walk)) at c.signed_low10-count.ensures in
-    record { sfits = omega (arith, low, low-lt c.args.p.walk) }
+    let low = rw (read_in 32 _ (lit≤ tt) (count_in c.args.p.walk c.requires.pass.walk)) at c.signed_low10-count.ensures in
+    record { sfits = omega (arith, low, low_lt c.args.p.walk) }
 
 pub next_walk-requires-clause-within : goal.next_walk-requires-clause-within
 next_walk-requires-clause-within c =
-    let low = rw (read-in 32 _ (lit≤ tt) (count-in c.args.p.walk c.requires.pass.walk)) at c.signed_low10-count.ensures in
-    let h = low-lt c.args.p.walk in
+    let low = rw (read_in 32 _ (lit≤ tt) (count_in c.args.p.walk c.requires.pass.walk)) at c.signed_low10-count.ensures in
+    let h = low_lt c.args.p.walk in
     rw (rdn c.signed_low10-count.result (omega (arith, low, h))) (record { low = omega zarith; high = omega zarith })
 
 pub returns : goal.returns
 returns c =
     let p = c.args.p in
-    let count = read-in 32 _ (lit≤ tt) (count-in p.walk c.requires.pass.walk) in
+    let count = read_in 32 _ (lit≤ tt) (count_in p.walk c.requires.pass.walk) in
     let due = rw count at c.lines_due-draw.ensures.0 in
-    let left = value c.less-left.type_inv (rw (read-in 32 _ (lit≤ tt) (remain-line p c.requires.pass), due) at c.less-left.ensures) in
+    let left = value c.less-left.type_inv (rw (read_in 32 _ (lit≤ tt) (remain_line p c.requires.pass), due) at c.less-left.ensures) in
     let low = rw count at c.signed_low10-count.ensures in
-    let h = low-lt p.walk in
+    let h = low_lt p.walk in
     rw (rdn c.signed_low10-count.result (omega (arith, low, h)), left, low) at c.next_walk.ensures

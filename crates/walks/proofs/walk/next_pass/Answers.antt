@@ -4,7 +4,7 @@ use Rattle.std.specs.Int.{w64}
 use mir.Val.{SFits}
 use Rattle.signed.specs.Diff.{up, zarith}
 use Rattle.signed.specs.Word.{rd}
-use Rattle.plan.specs.Out.{planOut}
+use Rattle.plan.specs.Out.{plan_out}
 use Rattle.walks.specs.Rounds.{passes_over}
 use Rattle.walks.proofs.walk.next_pass.Goals as goal
 
@@ -16,7 +16,7 @@ returns-then-remain-le0 c =
     let w = c.args.w in
     let f : SFits w64 w.frame_remain = record { sfits = omega arith } in
     let t = rw (rd f) at c.if-remain-le0.true in
-    sym (ap planOut (passes_over c.args.p.scaled w (none w.frame_remain (omega zarith))))
+    sym (ap plan_out (passes_over c.args.p.scaled w (none w.frame_remain (omega zarith))))
 
 pub running-requires : goal.running-requires
 running-requires c =

@@ -4,21 +4,21 @@ use Rattle.std.specs.Int.{w64}
 use Rattle.plan.specs.declared.types.Scaled.{Scaled}
 use Rattle.plan.specs.declared.types.Walk.{Walk}
 use Rattle.plan.specs.Scaled.{advance}
-use Rattle.loads.specs.Comes.{wider, read-in}
-use Rattle.loads.specs.Kept.{remain-in, slice_in}
+use Rattle.loads.specs.Comes.{wider, read_in}
+use Rattle.loads.specs.Kept.{remain_in, slice_in}
 use Rattle.loads.specs.Sound.{Runs}
-use Rattle.walks.specs.Going.{gone-start, gone-idle, gone-low, gone-refused, count-in, lines-in}
+use Rattle.walks.specs.Going.{gone_start, gone_idle, gone_low, gone_refused, count_in, lines_in}
 use Rattle.walks.proofs.walk.running.Goals as goal
 
 -- what the numbers of a walk read as
 count_is : (z : Scaled) (w : Walk) → Runs z w → to_z w64 (of_z w64 w.count) ≡ w.count
-count_is z w r = read-in 32 _ (lit≤ tt) (count-in w r.walk)
+count_is z w r = read_in 32 _ (lit≤ tt) (count_in w r.walk)
 
 left_is : (z : Scaled) (w : Walk) → Runs z w → to_z w64 (of_z w64 w.frame_remain) ≡ w.frame_remain
-left_is z w r = read-in 32 _ (lit≤ tt) (lines-in z w r)
+left_is z w r = read_in 32 _ (lit≤ tt) (lines_in z w r)
 
 rows_is : (z : Scaled) (w : Walk) → Runs z w → to_z w64 (of_z w64 w.slice_rows) ≡ w.slice_rows
-rows_is z w r = read-in 43 _ (lit≤ tt) (slice_in w r.walk)
+rows_is z w r = read_in 43 _ (lit≤ tt) (slice_in w r.walk)
 
 pub draw-requires-clause-bound : goal.draw-requires-clause-bound
 draw-requires-clause-bound c =
@@ -28,29 +28,29 @@ draw-requires-clause-bound c =
 pub advance-requires-clause-within : goal.advance-requires-clause-within
 advance-requires-clause-within c =
     let w = c.args.walk in
-    (wider 43 44 _ (lit≤ tt) (remain-in w c.requires.walk), rw (rows_is _ w c.requires) (wider 43 44 _ (lit≤ tt) (slice_in w c.requires.walk)))
+    (wider 43 44 _ (lit≤ tt) (remain_in w c.requires.walk), rw (rows_is _ w c.requires) (wider 43 44 _ (lit≤ tt) (slice_in w c.requires.walk)))
 
 pub returns-in_default : goal.returns-in_default
 returns-in_default c =
     let due = rw (count_is _ _ c.requires) at c.lines_due.ensures.0 in
-    gone-refused _ _ _ (gone-start _ _ c.requires) (eq-eqb _ 0 (sym due ∙ c.if-lines_due-ne0.false)) (rw (rows_is _ _ c.requires, c.in_default.is) at c.advance.ensures)
+    gone_refused _ _ _ (gone_start _ _ c.requires) (eq-eqb _ 0 (sym due ∙ c.if-lines_due-ne0.false)) (rw (rows_is _ _ c.requires, c.in_default.is) at c.advance.ensures)
 
 pub loop-source-init : goal.loop-source-init
 loop-source-init c =
     let due = rw (count_is _ _ c.requires) at c.lines_due.ensures.0 in
     let after = rw (count_is _ _ c.requires, left_is _ _ c.requires) at c.next_walk-w.ensures in (
-      gone-idle _ _ _ (gone-start _ _ c.requires) (eq-eqb _ 0 (sym due ∙ c.if-lines_due-ne0.false)) _ _ (rw (rows_is _ _ c.requires, c.in-To.is) at c.advance.ensures) after,
+      gone_idle _ _ _ (gone_start _ _ c.requires) (eq-eqb _ 0 (sym due ∙ c.if-lines_due-ne0.false)) _ _ (rw (rows_is _ _ c.requires, c.in-To.is) at c.advance.ensures) after,
       ap (λ (w : Walk). w.slice_rows) after,
     )
 
 pub forward-requires-clause-within : goal.forward-requires-clause-within
-forward-requires-clause-within c = wider 43 44 _ (lit≤ tt) (remain-in c.loop-source.w c.loop-source.invariant.0.runs.walk)
+forward-requires-clause-within c = wider 43 44 _ (lit≤ tt) (remain_in c.loop-source.w c.loop-source.invariant.0.runs.walk)
 
 pub returns-in_default-forward : goal.returns-in_default-forward
 returns-in_default-forward c =
     let g = c.loop-source.invariant.0 in
     let due = rw (count_is _ _ g.runs) at c.lines_due-in-loop-source.ensures.0 in
-    gone-refused _ _ _ g (eq-eqb _ 0 (sym due ∙ c.loop-source-test.true))
+    gone_refused _ _ _ g (eq-eqb _ 0 (sym due ∙ c.loop-source-test.true))
     ((rw c.in_default-forward.is at c.forward.ensures) ∙ ap (advance c.args.p.scaled c.loop-source.w.source) (sym c.loop-source.invariant.1))
 
 pub loop-source-smaller : goal.loop-source-smaller
@@ -58,14 +58,14 @@ loop-source-smaller c =
     let g = c.loop-source.invariant.0 in
     let due = rw (count_is _ _ g.runs) at c.lines_due-in-loop-source.ensures.0 in
     let after = rw (count_is _ _ g.runs, left_is _ _ g.runs) at c.next_walk-w-in-loop-source.ensures in
-    gone-low _ _ _ g (eq-eqb _ 0 (sym due ∙ c.loop-source-test.true)) _ _ after
+    gone_low _ _ _ g (eq-eqb _ 0 (sym due ∙ c.loop-source-test.true)) _ _ after
 
 pub loop-source-preserved : goal.loop-source-preserved
 loop-source-preserved c =
     let g = c.loop-source.invariant.0 in
     let due = rw (count_is _ _ g.runs) at c.lines_due-in-loop-source.ensures.0 in
     let after = rw (count_is _ _ g.runs, left_is _ _ g.runs) at c.next_walk-w-in-loop-source.ensures in (
-      gone-idle _ _ _ g (eq-eqb _ 0 (sym due ∙ c.loop-source-test.true)) _ _ ((rw c.in-To-forward.is at c.forward.ensures) ∙ ap (advance c.args.p.scaled c.loop-source.w.source) (sym c.loop-source.invariant.1)) after,
+      gone_idle _ _ _ g (eq-eqb _ 0 (sym due ∙ c.loop-source-test.true)) _ _ ((rw c.in-To-forward.is at c.forward.ensures) ∙ ap (advance c.args.p.scaled c.loop-source.w.source) (sym c.loop-source.invariant.1)) after,
       ap (λ (w : Walk). w.slice_rows) after,
     )
 
