@@ -74,7 +74,7 @@ impl Drift {
     }
 
     /// How far behind SPECIFICATION 11.6 lets a line be; for origins between rows, which 11.1 leaves
-    /// out, `between_rows` of crates/drift/specs/Proof.antt.
+    /// out, `between_rows` of crates/drift/proofs/Demand3.antt.
     fn behind(&self) -> i64 {
         self.step + if self.whole_origin { 30 } else { 1022 }
     }

@@ -20,7 +20,8 @@ use Rattle.plan.specs.declared.types.Entry.TheVariants as entry
 use Rattle.plan.specs.Check.{tile_numbers, tiles_numbers}
 use Rattle.plan.specs.Run.{descriptor, bank_step, bank_after}
 use Rattle.plan.specs.Sound.{Narrow}
-use Rattle.giving.specs.Host.{tile_from, tiles_from, bank_from, bank_numbers, seventeen, each_seventeen}
+use Rattle.giving.specs.Host.{tile_from, tiles_from, bank_from, bank_numbers}
+use Rattle.giving.proofs.HostLaws.{seventeen, each_seventeen}
 use Rattle.banks.specs.Narrows.{AllNarrow}
 
 -- ---- words into a bank

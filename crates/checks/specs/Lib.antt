@@ -2,4 +2,3 @@
 pub mod Check
 pub mod Ties
 pub mod Known
-pub mod Passed

@@ -1,26 +1,18 @@
--- Any number of calls, each on the words that the one before it left, whatever lies between them: the words of the plan's entries, one a call, then of its end for ever.
+-- A list of calls of `visor_step`, each on the words that the one before it left, and what they give. proofs/Calls.antt has demand 2 of it.
 -- Assumes nothing.
-use Rattle.std.specs.Prelude.{◌≡◌, refl, List, [], ◌∷◌, map, ℕ, zero, suc, length}
-use Rattle.std.proofs.Common.{sym, ap, ◌∙◌, subst, arith, eq-eqb}
+use Rattle.std.specs.Prelude.{◌≡◌, List, [], ◌∷◌, map, ℕ, zero, suc, length}
 use Rattle.object.specs.declared.types.Verdict.{Verdict}
 use Rattle.plan.specs.declared.types.Entry.{Entry}
 use Rattle.plan.specs.declared.types.End.{End}
-use Rattle.plan.specs.Whole.{plan_of}
-use Rattle.plan.specs.Run.{end_words, end_of}
-use Rattle.plan.specs.Steps.{Coming, coming_of, next_of, answer_of, answers}
+use Rattle.plan.specs.Run.{end_words}
+use Rattle.plan.specs.Steps.{Coming, next_of, answer_of, answers}
 use Rattle.words.specs.declared.count.Counts.{Counts}
-use Rattle.words.specs.Counts.{counted_all, end_with}
+use Rattle.words.specs.Counts.{end_with}
 use Rattle.giving.specs.Host.{words_after, words_step}
-use Rattle.request.specs.Host.{host_request}
 use Rattle.planner.specs.declared.types.Course.TheVariants as course
-use Rattle.planner.specs.declared.types.Planner.{Planner}
-use Rattle.planner.specs.Coming.{coming}
-use Rattle.planner.specs.Step.{planner_at, counts_at_end}
-use Rattle.stored.specs.declared.types.Loaded.{Loaded}
-use Rattle.stored.specs.declared.types.Loaded.TheVariants as loaded
-use Rattle.stored.specs.Stored.{WordsOf, LoadedIs}
-use Rattle.stored.proofs.Laws.{one_planner, thirty_nine}
-use Rattle.stepping.specs.Host.{answer_words, sets_next, Has, Moved, StepFrom, StepOf, StepIs, StartIs}
+use Rattle.planner.specs.Step.{planner_at}
+use Rattle.stored.specs.Stored.{WordsOf}
+use Rattle.stepping.specs.Host.{answer_words, sets_next, Has, StepIs}
 
 -- ---- one call
 
@@ -31,29 +23,6 @@ pub record Gave (c : Coming) (bank : List ℕ) (r : ℕ) (ws' bank' out' : List 
   pub set : bank' ≡ words_after bank (sets_next c.entries c.left)
   pub has : Has ws' (next_of c.entries c.left c.end)
 
--- a call on words of a sound planner moves that planner
-pub call_moves : (p : Planner) (ws bank out : List ℕ) (r : ℕ) (ws' bank' out' : List ℕ) → WordsOf p ws → length bank ≡ 136 → length out ≡ 11 → StepIs ws bank out r ws' bank' out' → (r ≡ 0) × Moved p bank ws' bank' out'
-call_moves p ws bank out r ws' bank' out' h b o s =
-    let n : length ws ≡ 39 = ap length h.stored.is ∙ thirty_nine p.course p.counts in
-    let m : StepOf ws bank out r ws' bank' out' = rw (eq-eqb (length ws) 39 n, eq-eqb (length bank) 136 b, eq-eqb (length out) 11 o) at s in
-    by m.loaded m.is m.step
-  where
-    by : (l : Loaded) → LoadedIs ws l → StepFrom l ws bank out r ws' bank' out' → (r ≡ 0) × Moved p bank ws' bank' out'
-    by (loaded.Is q) k t = (t.0, subst (λ (x : Planner). Moved x bank ws' bank' out') (one_planner q p ws k h) t.1)
-    by loaded.Nothing k t = absurd (k p h)
-
--- the theorem for hosts: words that have c to come give the first of c, and have the rest to come
-pub host_step : (ws bank out : List ℕ) (r : ℕ) (ws' bank' out' : List ℕ) (c : Coming) → Has ws c → length bank ≡ 136 → length out ≡ 11 → StepIs ws bank out r ws' bank' out' → Gave c bank r ws' bank' out'
-host_step ws bank out r ws' bank' out' c h b o s =
-    let m = call_moves h.planner ws bank out r ws' bank' out' h.words b o s in
-    let e = h.coming in
-    record {
-      answer = m.0;
-      out = m.1.out ∙ ap (λ (d : Coming). answer_words (answer_of d.entries d.end)) e;
-      set = m.1.set ∙ ap (λ (d : Coming). words_after bank (sets_next d.entries d.left)) e;
-      has = subst (λ (d : Coming). Has ws' (next_of d.entries d.left d.end)) e m.1.has;
-    }
-
 -- ---- any number of calls
 
 -- each on the words that the one before it left, with any bank
@@ -61,65 +30,21 @@ pub data Calls : (ws : List ℕ) → (outs : List (List ℕ)) → (ws' : List �
   none : {ws : List ℕ} → Calls ws [] ws
   call : (ws bank out : List ℕ) (r : ℕ) (ws₁ bank₁ out' : List ℕ) {ws' : List ℕ} {outs : List (List ℕ)} → length bank ≡ 136 → length out ≡ 11 → StepIs ws bank out r ws₁ bank₁ out' → Calls ws₁ outs ws' → Calls ws (out' ∷ outs) ws'
 
--- of two calls the second is on the words that the first left
-pub two_calls : (ws bank out ws₁ bank₁ out₁ bank' out' ws₂ bank₂ out₂ : List ℕ) (r r' : ℕ) → length bank ≡ 136 → length out ≡ 11 → StepIs ws bank out r ws₁ bank₁ out₁
-    → length bank' ≡ 136 → length out' ≡ 11 → StepIs ws₁ bank' out' r' ws₂ bank₂ out₂ → Calls ws (out₁ ∷ out₂ ∷ []) ws₂
-two_calls ws bank out ws₁ bank₁ out₁ bank' out' ws₂ bank₂ out₂ r r' b o i b' o' j = call ws bank out r ws₁ bank₁ out₁ b o i (call ws₁ bank' out' r' ws₂ bank₂ out₂ b' o' j none)
-
 -- each also on the bank that the one before it left
 pub data BankCalls : (ws bank : List ℕ) → (outs : List (List ℕ)) → (ws' bank' : List ℕ) → Type 0 where
   none : {ws bank : List ℕ} → BankCalls ws bank [] ws bank
   call : (ws bank out : List ℕ) (r : ℕ) (ws₁ bank₁ out' : List ℕ) {ws' bank' : List ℕ} {outs : List (List ℕ)} → length bank ≡ 136 → length out ≡ 11 → StepIs ws bank out r ws₁ bank₁ out' → BankCalls ws₁ bank₁ outs ws' bank'
       → BankCalls ws bank (out' ∷ outs) ws' bank'
 
-pub any_bank : {ws bank ws' bank' : List ℕ} {outs : List (List ℕ)} → BankCalls ws bank outs ws' bank' → Calls ws outs ws'
-any_bank none = none
-any_bank (call ws bank out r ws₁ bank₁ out' b o s rest) = call ws bank out r ws₁ bank₁ out' b o s (any_bank rest)
-
-abbrev to_come : List Entry → List Entry → End → Coming
-to_come es left e = record { entries = es; left = left; end = e }
-
 -- the words of the first n answers: the entries, then the end for ever
 unfoldable pub answered : (n : ℕ) → List Entry → End → List (List ℕ)
 answered n es e = map answer_words (answers n es e)
-
-pub calls_give : {ws ws' : List ℕ} {outs : List (List ℕ)} (es left : List Entry) (e : End) → Has ws (to_come es left e) → Calls ws outs ws' → outs ≡ answered (length outs) es e
-unfolding answered answers
-calls_give es left e h none = refl
-calls_give [] left e h (call ws bank out r ws₁ bank₁ out' b o s rest) =
-    let g = host_step ws bank out r ws₁ bank₁ out' (to_come [] left e) h b o s in
-    λ j. g.out j ∷ calls_give [] [] e g.has rest j
-calls_give (x ∷ es) left e h (call ws bank out r ws₁ bank₁ out' b o s rest) =
-    let g = host_step ws bank out r ws₁ bank₁ out' (to_come (x ∷ es) left e) h b o s in
-    λ j. g.out j ∷ calls_give es left e g.has rest j
 
 -- the bank's words after n answers; what a refused load has set is set by the first call that answers the end, and by no later one
 unfoldable pub bank_words_to : ℕ → List Entry → List Entry → List ℕ → List ℕ
 bank_words_to zero es left bank = bank
 bank_words_to (suc n) [] left bank = bank_words_to n [] [] (words_after bank left)
 bank_words_to (suc n) (x ∷ es) left bank = bank_words_to n es left (words_step bank x)
-
-pub calls_set : {ws bank ws' bank' : List ℕ} {outs : List (List ℕ)} (es left : List Entry) (e : End) → Has ws (to_come es left e) → BankCalls ws bank outs ws' bank' → bank' ≡ bank_words_to (length outs) es left bank
-unfolding bank_words_to words_after
-calls_set es left e h none = refl
-calls_set [] left e h (call ws bank out r ws₁ bank₁ out' {outs = outs} b o s rest) =
-    let g = host_step ws bank out r ws₁ bank₁ out' (to_come [] left e) h b o s in
-    calls_set [] [] e g.has rest ∙ ap (bank_words_to (length outs) [] []) g.set
-calls_set (x ∷ es) left e h (call ws bank out r ws₁ bank₁ out' {outs = outs} b o s rest) =
-    let g = host_step ws bank out r ws₁ bank₁ out' (to_come (x ∷ es) left e) h b o s in
-    calls_set es left e g.has rest ∙ ap (bank_words_to (length outs) es left) g.set
-
--- ---- from `visor_start` on
-
-module _ (object request ws ws₁ : List ℕ) (r : ℕ) (q : length request ≡ 7) (l : length ws ≡ 39) (s : StartIs object request ws r ws₁) where
-  pub started : Has ws₁ (coming_of (plan_of (host_request object request)))
-  started = let m = rw (eq-eqb (length request) 7 q, eq-eqb (length ws) 39 l) at s in m.1
-
-  pub plan_stepped : {ws' : List ℕ} {outs : List (List ℕ)} → Calls ws₁ outs ws' → outs ≡ answered (length outs) (plan_of (host_request object request)).entries (end_of (plan_of (host_request object request)))
-  plan_stepped calls = calls_give (plan_of (host_request object request)).entries (plan_of (host_request object request)).left (end_of (plan_of (host_request object request))) started calls
-
-  pub bank_stepped : {bank ws' bank' : List ℕ} {outs : List (List ℕ)} → BankCalls ws₁ bank outs ws' bank' → bank' ≡ bank_words_to (length outs) (plan_of (host_request object request)).entries (plan_of (host_request object request)).left bank
-  bank_stepped calls = calls_set (plan_of (host_request object request)).entries (plan_of (host_request object request)).left (end_of (plan_of (host_request object request))) started calls
 
 -- ---- after the end neither state nor bank changes
 
@@ -130,31 +55,8 @@ pub record Ended (ws : List ℕ) (x : End) : Type 0 where
   pub words : WordsOf (planner_at (course.Over verdict) counts) ws
   pub end : x ≡ end_with counts verdict
 
--- the call that answers the end leaves such words
-pub call_ends : (ws bank out : List ℕ) (r : ℕ) (ws' bank' out' : List ℕ) (left : List Entry) (e : End) → Has ws (to_come [] left e) → length bank ≡ 136 → length out ≡ 11 → StepIs ws bank out r ws' bank' out' → Ended ws' e
-call_ends ws bank out r ws' bank' out' left e h b o s =
-    let p = h.planner in
-    let m = call_moves p ws bank out r ws' bank' out' h.words b o s in
-    let k = h.words.sound in
-    let f = k.few in
-    let none = ap (λ (c : Coming). c.entries) h.coming in
-    let x = ap (λ (c : Coming). c.end) h.coming in
-    record {
-      verdict = (coming p).end.verdict;
-      counts = p.counts;
-      words = record { stored = record { is = m.1.over none; fits = tt }; sound = record { course = tt; counts = k.counts; few = omega arith } };
-      end = sym x ∙ counts_at_end p none;
-    }
-
 pub record Stays (ws bank : List ℕ) (x : End) (r : ℕ) (ws' bank' out' : List ℕ) : Type 0 where
   pub answer : r ≡ 0
   pub same_state : ws' ≡ ws
   pub same_bank : bank' ≡ bank
   pub out : out' ≡ end_words x
-
--- and every later one leaves all as it is, and answers the same end
-pub end_stays : (ws bank out : List ℕ) (r : ℕ) (ws' bank' out' : List ℕ) (x : End) → Ended ws x → length bank ≡ 136 → length out ≡ 11 → StepIs ws bank out r ws' bank' out' → Stays ws bank x r ws' bank' out'
-unfolding coming counted_all words_after
-end_stays ws bank out r ws' bank' out' x h b o s =
-    let m = call_moves (planner_at (course.Over h.verdict) h.counts) ws bank out r ws' bank' out' h.words b o s in
-    record { answer = m.0; same_state = m.1.over refl ∙ sym h.words.stored.is; same_bank = m.1.set; out = m.1.out ∙ ap end_words (sym h.end) }

@@ -1,10 +1,9 @@
 -- Demands 2 and 3 of any list of steps from a fresh planner, and of a whole run.
 pub mod Steps
-pub mod Drift
 pub mod Calls
 pub mod Stepped
 pub mod Loads
-pub mod Early
 pub mod Applied
 pub mod Columns
 pub mod Measured
+pub mod Early

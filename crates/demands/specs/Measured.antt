@@ -11,8 +11,9 @@ use Rattle.plan.specs.Whole.{plan_of}
 use Rattle.plan.specs.Demand.{Drift, drift_of, strips_of, ahead, behind_of, ahead_of, Near, AllNear, Apt, Begun, aheads, apt}
 use Rattle.request.specs.Host.{host_request}
 use Rattle.drift.specs.Plain.{by_near}
-use Rattle.drift.specs.Proof.{whole_rows}
-use Rattle.drift.specs.Words.{Drawn, drawn_entries}
+use Rattle.drift.proofs.Demand3.{whole_rows}
+use Rattle.drift.specs.Words.{Drawn}
+use Rattle.drift.proofs.Words.{drawn_entries}
 use Rattle.ruler.specs.Drifts.{drifts_of, set_up}
 use Rattle.measuring.specs.Host.{shown_of, measured_of, host_drift}
 

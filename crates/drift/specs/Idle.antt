@@ -1,21 +1,16 @@
--- At most 64 passes in a row draw no line (D 8.23): each adds at least 16 to a count that is never negative, and from 1,024 a pass draws. D is docs/SPECIFICATION.md.
+-- Passes in a row that draw no line (D 8.23): each adds at least 16 to a count that is never negative, and from 1,024 a pass draws, so there are at most 64. D is docs/SPECIFICATION.md.
 -- Assumes nothing.
 use Rattle.std.specs.Prelude.{◌≡◌, refl, Bool, true, false, List, [], ◌∷◌, ℕ, zero, suc, ◌+◌, ◌*◌, ◌/◌, ◌<◌, ◌≤◌, eqb, ℤ, pos, ◌+ℤ◌}
 use Rattle.std.proofs.Common.{ap, ◌∙◌, arith, eq-eqb}
 use Rattle.signed.specs.Diff.{up}
 use Rattle.signed.specs.Floor.{floor_div, modulo}
-use Rattle.object.specs.Layout.{Bytes, decode}
-use Rattle.checks.specs.Passed.{decode_range}
-use Rattle.plan.specs.Request.{Request}
 use Rattle.plan.specs.declared.types.Entry.{Entry}
 use Rattle.plan.specs.declared.types.Scaled.{Scaled}
 use Rattle.plan.specs.declared.types.Walk.{Walk}
 use Rattle.plan.specs.Out.{Out, more, ◌>>=◌, yield}
 use Rattle.plan.specs.Out.Out.{go, stop}
-use Rattle.plan.specs.Scaled.{clip_of, start_of, scaled_of, first_of, first_pass, slices_bad, draw_of, advance, load_1cyc, idle_pass, draw_pass, pass}
+use Rattle.plan.specs.Scaled.{draw_of, advance, load_1cyc, idle_pass, draw_pass, pass}
 use Rattle.drift.specs.Walk.{pass_rows, pass_rect, drawn_next, idle_next}
-use Rattle.drift.specs.Proof.{decoded_scale}
-use Rattle.drift.specs.Lines.{first_natural, frame_least}
 
 -- a walk that passes reach from another
 pub data Reached (z : Scaled) (first : Walk) : Walk → Type 0 where
@@ -49,7 +44,7 @@ natural_after z w w' es c n e = by (eqb (draw_of w) 0) refl
     by true t = (c + z.frame_rows, idle_count z w w' es t e ∙ ap (λ (u : ℤ). u +ℤ pos z.frame_rows) n)
     by false t = (modulo w.count 1024 + z.frame_rows, drawn_count z w w' es t e)
 
-reached_natural : (z : Scaled) (first w : Walk) (c : ℕ) → first.count ≡ pos c → Reached z first w → (c' : ℕ) × (w.count ≡ pos c')
+pub reached_natural : (z : Scaled) (first w : Walk) (c : ℕ) → first.count ≡ pos c → Reached z first w → (c' : ℕ) × (w.count ≡ pos c')
 reached_natural z first w c n start = (c, n)
 reached_natural z first w c n (after {w = x} {es = es} r e) = let m = reached_natural z first x c n r in natural_after z x w es m.0 m.1 e
 
@@ -64,20 +59,3 @@ still_below z (suc n) w c r q (one {w' = w'} {es = es} d e i) =
 pub idle_64 : (z : Scaled) (n : ℕ) (w : Walk) (c : ℕ) → 16 ≤ z.frame_rows → w.count ≡ pos c → Idle z n w → n ≤ 64
 idle_64 z zero w c r q i = omega arith
 idle_64 z (suc n) w c r q i = omega (arith, still_below z n w c r q i)
-
--- D "At most 64 passes in a row draw no line": from any walk of a request's plan that 6 does not refuse
-pub few_idle : (q : Request) → Bytes q.bytes
-    → let bg = decode 4 false q.bytes in
-    let c = clip_of bg q.scissor in
-    let i = start_of bg c in
-    let z = scaled_of bg q.mode q.address c i in
-    slices_bad z ≡ false → (p n : ℕ) (w : Walk) → Reached z (first_pass z c (first_of z i) p) w → Idle z n w → n ≤ 64
-few_idle q h e p n w a i =
-    let bg = decode 4 false q.bytes in
-    let c = clip_of bg q.scissor in
-    let s = start_of bg c in
-    let z = scaled_of bg q.mode q.address c s in
-    let r : 16 ≤ z.frame_rows = frame_least bg q.mode q.address c s (decoded_scale q.bytes) (decode_range 4 false q.bytes h).scale_h e in
-    let f = first_natural z s (omega arith) in
-    let m = reached_natural z (first_pass z c (first_of z s) p) w f.0 f.1 a in
-    idle_64 z n w m.0 r m.1 i

@@ -11,7 +11,7 @@ use lib.Seq.{take-take}
 use borrow.Author.Tests.{ltb-true, ltb-false}
 use Rattle.lines.specs.Text.{space, minus, digits_of, leading, column, is_negative, magnitude_of, cell}
 use Rattle.lines.specs.Lines.{with_text, PutIs, Blank, DigitsIs}
-use Rattle.lines.proofs.Texts.{with_nil, with_length, with_before, with_lead}
+use Rattle.lines.proofs.Texts.{with_nil, with_before, with_lead}
 
 -- ---- lengths
 

@@ -36,6 +36,12 @@ with_part p k q = record { scaled = p.scaled; walk = p.walk; rows = p.rows; line
 abbrev pub with_next : Place → Source → Place
 with_next p s = record { scaled = p.scaled; walk = p.walk; rows = p.rows; lines = p.lines; part = p.part; spare = p.spare; next = s; piece = p.piece }
 
+abbrev pub with_spare : Place → ℕ → Place
+with_spare p n = record { scaled = p.scaled; walk = p.walk; rows = p.rows; lines = p.lines; part = p.part; spare = n; next = p.next; piece = p.piece }
+
+pub spare_sound : (p : Place) (n : ℕ) → SoundPass p → SoundPass (with_spare p n)
+spare_sound p n h = record { scaled = h.scaled; walk = h.walk; draws = h.draws; lines = h.lines; left = h.left; rows = h.rows; rows' = h.rows'; whole = h.whole }
+
 abbrev pub part_of : ℕ → (rows destination width : ℤ) → Part
 part_of pointer rows destination width = record { pointer = pointer; rows = rows; destination = destination; width = width }
 
@@ -205,11 +211,20 @@ module _ (p : Place) where
   pub chose_top : Meets choice.Top p → Chose piece.Start p choice.Top
   chose_top t = record { is = refl; left = omega arith; meets = t }
 
+  pub chose_split : Meets choice.SplitB p → Chose piece.Top p choice.SplitB
+  chose_split t = record { is = refl; left = omega arith; meets = t }
+
+  pub chose_split_a : Chose piece.SplitB p choice.SplitA
+  chose_split_a = record { is = refl; left = omega arith; meets = tt }
+
   pub chose_rest : Meets choice.Rest p → Chose piece.SplitA p choice.Rest
   chose_rest t = record { is = refl; left = omega arith; meets = t }
 
   pub chose_last : Meets choice.Last p → Chose piece.SplitA p choice.Last
   chose_last t = record { is = refl; left = omega arith; meets = t }
+
+  pub chose_move : Chose piece.Rest p choice.Move
+  chose_move = record { is = refl; left = omega arith; meets = tt }
 
   module _ (c : Choice) where
     -- no row runs over: the choice after the last row

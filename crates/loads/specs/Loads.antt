@@ -119,6 +119,24 @@ module _ (z : Scaled) (src : Source) (rows remain : ℤ) (s : Sum) (e : remain �
       → (sum_out s >>= (λ p. yield (record { pointer = p; remain = next }))) ≡ advance z src rows
   advance_by_wrap back next b n t h = sum_then s _ _ _ h ∙ rw (b, n, e, wrapped_by src.remain rows) (sym (advance_wrap z src rows (rw e at t)))
 
+module _ (rows destination width : ℤ) where
+  pub bad_rows : le_z rows (pos 0) ≡ true → part_bad rows destination width ≡ true
+  bad_rows t = rw t
+
+  pub bad_width : le_z rows (pos 0) ≡ false → le_z width (pos 0) ≡ true → part_bad rows destination width ≡ true
+  bad_width t u = rw (t, u)
+
+  pub bad_place : le_z rows (pos 0) ≡ false → le_z width (pos 0) ≡ false → part_bad rows destination width ≡ lt_z destination (pos 0)
+  bad_place t u = rw (t, u)
+
+-- R 189–190, 201–203
+module _ (z : Scaled) (odd p : ℕ) where
+  pub back_none : eqb odd 0 ≡ true → back z odd p ≡ yield p
+  back_none t = rw (t, back)
+
+  pub back_one : eqb odd 0 ≡ false → back z odd p ≡ source_address p (neg_ℤ (pos z.stride))
+  back_one t = rw (t, back)
+
 -- what is given first stays first
 pub then_assoc : {A B C : Type 0} (a : Out A) (b : Out B) (c : Out C) → ((a >> b) >> c) ≡ (a >> (b >> c))
 then_assoc a b c = bind_assoc a (λ _. b) (λ _. c)

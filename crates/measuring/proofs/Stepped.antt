@@ -11,7 +11,7 @@ use Rattle.planner.specs.declared.types.Given.{Given}
 use Rattle.planner.specs.declared.types.Given.TheVariants as given
 use Rattle.planner.specs.declared.types.Step.{Step}
 use Rattle.planner.specs.Coming.{coming, answer_in, StepGives}
-use Rattle.planner.specs.Step.{gave_entry, gave_rest, gave_fewer, gave_end}
+use Rattle.planner.proofs.StepLaws.{gave_entry, gave_rest, gave_fewer, gave_end}
 use Rattle.small.specs.Small.{Small, AllSmall}
 use Rattle.ruler.specs.declared.types.Ruler.{Ruler}
 use Rattle.ruler.specs.declared.types.Place.{Place}

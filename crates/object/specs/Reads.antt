@@ -1,9 +1,9 @@
 -- Laws of big-endian reads: one byte more, the bound by the bytes' number, and room for one more byte.
 -- Assumes nothing.
-use Rattle.std.specs.Prelude.{◌≡◌, List, ℕ, zero, suc, ◌+◌, ◌*◌, ◌^◌, ◌<◌, get_or}
+use Rattle.std.specs.Prelude.{◌≡◌, Bool, true, false, cond, List, ℕ, zero, suc, ◌+◌, ◌*◌, ◌^◌, ◌≤◌, ◌<◌, get_or}
 use Rattle.std.proofs.Common.{add-one, pow-suc, arith, lit<}
 use Rattle.std.proofs.Math.Nat.{pow-le-pow_right}
-use Rattle.object.specs.Layout.{read, Bytes, ReadIs}
+use Rattle.object.specs.Layout.{read, size_of, Bytes, ReadIs}
 
 pub read_none : (bs : List ℕ) (at : ℕ) → ReadIs bs at 0 0
 unfolding read
@@ -22,3 +22,16 @@ read_below bs at (suc n) h = omega (arith, read_below bs at n h, h (at + n), pow
 -- a number of fewer than eight bytes leaves room for one more
 pub room : (n r : ℕ) → n < 8 → r < 256 ^ n → r < 256 ^ 7
 room n r h l = omega (arith, pow-le-pow_right {n = 256} (lit< tt) {i = n} {j = 7} (omega arith))
+
+-- an object that is long enough has the fields that both kinds have, and those of its kind
+pub common_held : (p : ℕ) (copy : Bool) (n : ℕ) → size_of p copy ≤ n → 32 + p ≤ n
+common_held p true n h = omega arith
+common_held p false n h = omega arith
+
+pub copy_held : (p : ℕ) (copy : Bool) (a n : ℕ) → size_of p copy ≤ n → a ≤ 36 + p → cond copy a 0 ≤ n
+copy_held p true a n h l = omega arith
+copy_held p false a n h l = omega arith
+
+pub scaled_held : (p : ℕ) (copy : Bool) (a n : ℕ) → size_of p copy ≤ n → a ≤ 32 + p → cond copy 0 a ≤ n
+scaled_held p true a n h l = omega arith
+scaled_held p false a n h l = omega arith

@@ -144,14 +144,14 @@ module _ (m : ℕ) (z : Scaled) (w : Walk) (f c : ℕ) (r : 16 ≤ z.frame_rows)
   lines : draw_of w ≡ c / 1024
   lines = ap (λ (v : ℤ). up (floor_div v 1024)) q
 
-  after_idle : eqb (draw_of w) 0 ≡ true → (s : Source) → passes m z (next_pass z w.frame_y w.frame_remain w.count s) ≡ passes (suc m) z (next_pass z w.frame_y w.frame_remain w.count s)
+  pub after_idle : eqb (draw_of w) 0 ≡ true → (s : Source) → passes m z (next_pass z w.frame_y w.frame_remain w.count s) ≡ passes (suc m) z (next_pass z w.frame_y w.frame_remain w.count s)
   after_idle t s =
       let d : draw_of w ≡ 0 = eqb-true (draw_of w) 0 t in
       let l : draw_of w ≡ c / 1024 = lines in
       let k : c / 1024 ≡ 0 = omega arith in
       rec (next_pass z w.frame_y w.frame_remain w.count s) f (c + z.frame_rows) p (ap (λ (v : ℤ). v +ℤ pos z.frame_rows) q) (omega arith) (omega arith)
 
-  after_lines : eqb (draw_of w) 0 ≡ false → (y : ℕ) (s : Source) → passes m z (next_pass z y (w.frame_remain -ℤ pos (draw_of w)) (pos (modulo w.count 1024)) s) ≡ passes (suc m) z (next_pass z y (w.frame_remain -ℤ pos (draw_of w)) (pos (modulo w.count 1024)) s)
+  pub after_lines : eqb (draw_of w) 0 ≡ false → (y : ℕ) (s : Source) → passes m z (next_pass z y (w.frame_remain -ℤ pos (draw_of w)) (pos (modulo w.count 1024)) s) ≡ passes (suc m) z (next_pass z y (w.frame_remain -ℤ pos (draw_of w)) (pos (modulo w.count 1024)) s)
   after_lines t y s = by (ltb (c / 1024) f) refl
     where
       next : Walk
@@ -170,23 +170,6 @@ module _ (m : ℕ) (z : Scaled) (w : Walk) (f c : ℕ) (r : 16 ≤ z.frame_rows)
       by false u =
           let g : lt_z (pos 0) next.frame_remain ≡ false = ap (λ (v : ℤ). lt_z (pos 0) v) left ∙ below f (c / 1024) (ltb-false (c / 1024) f u) in
           passes_end m z next g ∙ sym (passes_end (suc m) z next g)
-
-pub passes_fuel : (n : ℕ) (z : Scaled) (w : Walk) (f c : ℕ) → 16 ≤ z.frame_rows → w.frame_remain ≡ pos f → w.count ≡ pos c → 1 ≤ n → 64 * f + 1 ≤ n + c / 16 → passes n z w ≡ passes (suc n) z w
-passes_fuel zero z w f c r p q one e = absurd (omega arith)
-passes_fuel (suc m) z w f c r p q one e = by (ltb 0 f) refl (λ w' f' c' p' q'. passes_fuel m z w' f' c' r p' q')
-  where
-    test : (t : Bool) → ltb 0 f ≡ t → lt_z (pos 0) w.frame_remain ≡ t
-    test t h = ap (λ (v : ℤ). lt_z (pos 0) v) p ∙ h
-
-    by : (t : Bool) → ltb 0 f ≡ t
-        → ((w' : Walk) (f' c' : ℕ) → w'.frame_remain ≡ pos f' → w'.count ≡ pos c' → 1 ≤ m → 64 * f' + 1 ≤ m + c' / 16 → passes m z w' ≡ passes (suc m) z w')
-        → passes (suc m) z w ≡ passes (suc (suc m)) z w
-    by true t rec =
-        let h : 0 < f = ltb-true 0 f t in
-        passes_on m z w (test true t)
-        ∙ pass_same z w (λ next. passes m z next) (λ next. passes (suc m) z next) (after_idle m z w f c r p q e h rec) (after_lines m z w f c r p q e h rec)
-        ∙ sym (passes_on (suc m) z w (test true t))
-    by false t rec = passes_end (suc m) z w (test false t) ∙ sym (passes_end (suc (suc m)) z w (test false t))
 
 -- ---- a stage as an index into what is to come: what is left of a plan after its first n entries
 

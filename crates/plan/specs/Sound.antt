@@ -1,6 +1,6 @@
 -- The ranges of a plan's numbers: what the set-up of each mode promises, and what its walk needs so that no sum overflows.
 -- Assumes nothing.
-use Rattle.std.specs.Prelude.{◌≡◌, cond, ℕ, ◌/◌, ◌^◌, ◌≤◌, ◌<◌, eqb, ℤ, pos, neg_ℤ, ◌≤ℤ◌}
+use Rattle.std.specs.Prelude.{◌≡◌, cond, ℕ, ◌/◌, ◌^◌, ◌≤◌, ◌<◌, eqb, pos, neg_ℤ, ◌≤ℤ◌}
 use Rattle.measures.specs.Range.{Below}
 use Rattle.plan.specs.declared.types.Copy.{Copy}
 use Rattle.plan.specs.declared.types.Scaled.{Scaled}

@@ -19,7 +19,8 @@ use Rattle.plan.specs.Out.{Plan}
 use Rattle.plan.specs.Run.{entry_words, plan_words, bank_step, bank_after, end_of, cut_at}
 use Rattle.plan.specs.Sound.{Narrow}
 use Rattle.plan.specs.Steps.{Coming, coming_of, answers, bank_to, next_of, answer_of, bank_next}
-use Rattle.giving.specs.Host.{bank_numbers, bank_from, words_after, words_after_lem, run_words}
+use Rattle.giving.specs.Host.{bank_numbers, bank_from, words_after, run_words}
+use Rattle.giving.proofs.HostLaws.{words_after_lem}
 use Rattle.digest.specs.Fnv.{basis, digest_from, digest_of, word_into}
 use Rattle.planner.specs.declared.types.Planner.{Planner}
 use Rattle.planner.specs.declared.types.Step.{Step}

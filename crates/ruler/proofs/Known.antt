@@ -15,7 +15,7 @@ use Rattle.object.specs.declared.types.Verdict.TheVariants as verdict
 use Rattle.object.specs.Layout.{decode}
 use Rattle.checks.specs.Check.{short, scissor_bad, any, object_faults, copy_faults, refused_by, object_of, checked_of}
 use Rattle.checks.specs.Known.{PassedScaled}
-use Rattle.checks.specs.Passed.{checked_scaled_is}
+use Rattle.checks.proofs.Passed.{checked_scaled_is}
 use Rattle.plan.specs.declared.types.Clip.{Clip}
 use Rattle.plan.specs.declared.types.Start.{Start}
 use Rattle.plan.specs.declared.types.Scaled.{Scaled}

@@ -22,11 +22,14 @@ use Rattle.plan.specs.Sound.{EntryIn}
 use Rattle.plan.specs.Steps.{Coming, coming_of}
 use Rattle.words.specs.declared.count.Counts.{Counts}
 use Rattle.giving.specs.declared.giving.Places.{Places}
-use Rattle.words.specs.Counts.{zero_counts, counted_of, counted_all, end_with, counted_entries, end_of_lem}
+use Rattle.words.specs.Counts.{zero_counts, counted_of, counted_all, end_with}
+use Rattle.words.proofs.CountsLaws.{counted_entries, end_of_lem}
 use Rattle.words.specs.Eleven.{eleven, eleven_each, words_append}
-use Rattle.giving.specs.Host.{bank_numbers, words_after, after_append, run_words, run_end, run_bank, run_buffer}
+use Rattle.giving.specs.Host.{bank_numbers, words_after, run_words}
+use Rattle.giving.proofs.HostLaws.{after_append, run_end, run_bank, run_buffer}
 use Rattle.giving.specs.Places.{no_places, placed_of, settled_of, PlacesIn}
-use Rattle.giving.specs.Placed.{Placed, placed_start, placed_more, places_in, settled_is}
+use Rattle.giving.specs.Placed.{Placed}
+use Rattle.giving.proofs.Placed.{placed_start, placed_more, places_in, settled_is}
 use Rattle.planner.specs.declared.types.Course.{Course}
 use Rattle.planner.specs.declared.types.Course.TheVariants as course
 use Rattle.planner.specs.declared.types.Planner.{Planner}
@@ -34,7 +37,7 @@ use Rattle.planner.specs.declared.types.Given.{Given}
 use Rattle.planner.specs.declared.types.Given.TheVariants as given
 use Rattle.planner.specs.declared.types.Step.{Step}
 use Rattle.planner.specs.Coming.{coming, coming_course, coming_from, counts_next, answer_in, left_in, Sound, StepGives, request_of}
-use Rattle.planner.specs.Step.{gave_entry, gave_rest, gave_end, counts_at_end}
+use Rattle.planner.proofs.StepLaws.{gave_entry, gave_rest, gave_end, counts_at_end}
 
 -- D "A whole run writes entries of eleven 64-bit words": the end, the whole buffer and the bank's words
 pub record RanIs (bytes : List ℕ) (opcode : ℕ) (scissor : Scissor) (mode address : ℕ) (buf ws out ws' : List ℕ) (r : End) : Type 0 where
@@ -118,8 +121,12 @@ going_start kept p h n buf room stride =
     by true r = record { place = first; fits = omega arith; same = refl; buffer = refl; placed = placed_start }
     by false r = (first, (refl, r refl))
 
--- the place lies in the buffer, and the places are those of entries
+-- the buffer keeps its length, the place lies in it, and the places are those of entries
 module _ {k : Coming} {buf out : List ℕ} {p : Planner} {n : Counts} {at : ℕ} {ps : Places} where
+  pub still_long : (kept : Bool) → Going kept k buf out p n at ps → length out ≡ length buf
+  still_long true g = g.written.same
+  still_long false g = g.written.1.0
+
   pub at_in : (kept : Bool) → Going kept k buf out p n at ps → at ≤ length out
   at_in true g = let l = g.written.place in let h = g.written.fits in let m = g.written.same in omega arith
   at_in false g = let l = g.written.0 in omega arith

@@ -16,7 +16,7 @@ use Rattle.planner.specs.declared.types.Given.{Given}
 use Rattle.planner.specs.declared.types.Given.TheVariants as given
 use Rattle.planner.specs.declared.types.Step.{Step}
 use Rattle.planner.specs.Coming.{coming, answer_in, Sound, StepGives}
-use Rattle.planner.specs.Step.{gave_entry, gave_rest, gave_end}
+use Rattle.planner.proofs.StepLaws.{gave_entry, gave_rest, gave_end}
 use Rattle.show.specs.declared.text.Chunk as code
 use Rattle.lines.specs.Text.{entry_text, end_text}
 use Rattle.lines.specs.Lines.{with_text, PutIs}

@@ -17,7 +17,7 @@ use Rattle.object.specs.Layout.{Bytes, layout, value_of, decode}
 use Rattle.measures.specs.Range.{Below}
 use Rattle.checks.specs.Known.{PassedCopy, PassedScaled}
 use Rattle.object.specs.Reads.{read_below}
-use Rattle.checks.specs.Passed.{passed_copy, passed_scaled, checked_copy_is}
+use Rattle.checks.proofs.Passed.{passed_copy, passed_scaled, checked_copy_is}
 use Rattle.plan.specs.declared.types.Entry.TheVariants as entry
 use Rattle.plan.specs.declared.types.Copy.{Copy}
 use Rattle.plan.specs.declared.types.Strip.{Strip}

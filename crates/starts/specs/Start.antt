@@ -32,11 +32,15 @@ use Rattle.loads.specs.declared.types.Reached.{Reached}
 use Rattle.loads.specs.declared.types.Reached.TheVariants as reached
 use Rattle.loads.specs.Sound.{Reaches}
 use Rattle.words.specs.declared.count.Counts.{Counts}
-use Rattle.words.specs.Counts.{zero_counts, zero_countable, counted_all, end_with, end_of_lem}
+use Rattle.words.specs.Counts.{zero_counts, counted_all, end_with}
+use Rattle.words.proofs.CountsLaws.{zero_countable, end_of_lem}
 use Rattle.planner.specs.declared.types.Course.{Course}
 use Rattle.planner.specs.declared.types.Course.TheVariants as course
 use Rattle.planner.specs.declared.types.Planner.{Planner}
 use Rattle.planner.specs.Coming.{coming_course, coming_from, coming, Starts, StartsCopy, StartsScaled, Fresh, course_of, request_of}
+use Rattle.plan.specs.declared.types.Start.{Start}
+use Rattle.scaled.specs.Range.{StartIn}
+use Rattle.first.specs.Near.{Near}
 
 over_starts : (plan : Plan) (v : Verdict) → ended [] v ≡ plan → Starts plan (course.Over v)
 over_starts plan v e = record { is = e; first = tt; sound = tt; left = omega arith }
@@ -127,6 +131,9 @@ module _ (bytes : List ℕ) (opcode : ℕ) (s : Scissor) (mode address : ℕ) wh
     copied : SoundStart place
     copied = let at = rw e at f.first in rw at at (rw e at f.sound.course)
 
+    pub copied_sound : SoundCopy place.copy
+    copied_sound = copied.copy
+
     copied_coming : coming_course p.course ≡ plan_out (copy_plan place.copy)
     copied_coming =
         let at = rw e at f.first in
@@ -139,3 +146,7 @@ module _ (bytes : List ℕ) (opcode : ℕ) (s : Scissor) (mode address : ℕ) wh
         ∙ sym (end_of_lem (coming_course p.course))
         ∙ ap (λ (n : Counts). end_with (counted_all n (coming_course p.course).entries) (coming_course p.course).verdict) (sym f.counts)
         ∙ ap (λ (c : Coming). c.end) f.coming
+
+-- a start in an image is near enough for the first strip
+pub near : {bg : ObjBg} {i : Start} → StartIn bg i → Near i
+near s = record { image_y = s.image_y; low = s.low; high = s.high }

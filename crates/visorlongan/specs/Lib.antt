@@ -1,3 +1,2 @@
 -- What the exported functions leave to the host.
 pub mod Host
-pub mod Laws

@@ -26,6 +26,7 @@ use Rattle.loads.specs.Loads.{after_yield, after_refuse}
 use Rattle.loads.specs.Comes.{within}
 use Rattle.loads.specs.Kept.{idle_kept, not_over}
 use Rattle.loads.specs.Sound.{SoundWalk, SoundPass, Runs, Begins, due_lines, cut_lines, cut_rows}
+use Rattle.loads.specs.declared.types.Begun.{Begun}
 
 pub pos_up : (v : ℤ) → pos 0 ≤ℤ v → v ≡ pos (up v)
 pos_up (pos n) h = refl
@@ -175,6 +176,10 @@ module _ (z : Scaled) (w₀ w : Walk) (g : Gone z w₀ w) where
 
     pub gone_refused : refuse verdict.Address ≡ advance z w.source w.slice_rows → Begins (plan_out (passes_of z w₀)) (14 * up w₀.frame_remain) (begun.Ended verdict.Address)
     gone_refused e = idle_refused z w g.runs t e ∙ g.plan
+
+  pub gone_draw : (b : Begun) → Begins (plan_out (passes_of z w)) (14 * up w.frame_remain) b → Begins (plan_out (passes_of z w₀)) (14 * up w₀.frame_remain) b
+  gone_draw (begun.At k p) h = let l = ap up g.lines in let n = h.1.1 in (h.0, (h.1.0 ∙ g.plan, omega arith))
+  gone_draw (begun.Ended v) h = h ∙ g.plan
 
 -- a pass's lines are few
 pub lines_low : (p : Place) → SoundPass p → p.lines ≤ 2 ^ 21

@@ -15,7 +15,8 @@ use Rattle.plan.specs.declared.types.Walk.{Walk}
 use Rattle.plan.specs.Out.{Out, ◌>>=◌, ◌>>◌, yield, emit}
 use Rattle.plan.specs.Ties.{rows_left}
 use Rattle.plan.specs.Scaled.{draw_of, next_pass, advance, load_1cyc, idle_pass, draw_pass, pass, passes, rows_of, lines_of, rect_of, after_draw}
-use Rattle.plan.specs.Laws.{passes_on, passes_end, passes_fuel, pass_same, bind_assoc, more_nil}
+use Rattle.plan.specs.Laws.{passes_on, passes_end, pass_same, bind_assoc, more_nil}
+use Rattle.plan.proofs.Fuel.{passes_fuel}
 use Rattle.loads.specs.Coming.{passes_of}
 
 -- more fuel changes nothing

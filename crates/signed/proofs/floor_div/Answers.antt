@@ -1,5 +1,5 @@
 -- Below 0 the divisor less one is taken away first; each step in between reads back as the integer that it is.
-use Rattle.std.proofs.Common.{ℕ, ◌<◌, ◌^◌, pos, ◌-ℤ◌, ◌≤ℤ◌}
+use Rattle.std.proofs.Common.{◌<◌, ◌^◌, pos, ◌-ℤ◌, ◌≤ℤ◌}
 use Rattle.std.specs.Int.{w64}
 use mir.Val.{SFits}
 use Rattle.signed.specs.Diff.{zdiff, zarith}

@@ -1,5 +1,5 @@
 -- The remainder has the dividend's sign; below 0 the divisor is added.
-use Rattle.std.proofs.Common.{◌<◌, ◌^◌, pos, ◌+ℤ◌, ◌≤ℤ◌, ◌≡◌, to_z, of_z}
+use Rattle.std.proofs.Common.{◌<◌, ◌^◌, pos, ◌+ℤ◌, ◌≤ℤ◌, ◌≡◌}
 use Rattle.std.specs.Int.{w64}
 use Rattle.std.specs.Int.Signed.{rem_z}
 use mir.Val.{SFits}

@@ -1,6 +1,6 @@
 -- Each way out is one of the laws of `Passed`.
 use Rattle.std.proofs.Common.{sym, ◌∙◌}
-use Rattle.checks.specs.Passed.{opcode_refused, short_refused, object_checked, checked_is}
+use Rattle.checks.proofs.Passed.{opcode_refused, short_refused, object_checked, checked_is}
 use Rattle.checks.proofs.check.checked.Goals as goal
 
 pub returns-then-opcode_bad : goal.returns-then-opcode_bad

@@ -6,7 +6,7 @@ use Rattle.signed.specs.Word.{rk}
 use Rattle.plan.specs.declared.types.Scaled.{Scaled}
 use Rattle.plan.specs.Sound.{SoundScaled}
 use Rattle.first.specs.First.{offset_of, slice_of}
-use Rattle.first.specs.FirstLaw.{starts, start_fits, slice_in}
+use Rattle.first.proofs.FirstLaw.{starts, start_fits, slice_in}
 use Rattle.first.proofs.first.cut_of.Goals as goal
 use Rattle.first.proofs.first.cut_of.Goals.{After-floor_div-slice}
 

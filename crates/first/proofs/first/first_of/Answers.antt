@@ -8,7 +8,8 @@ use Rattle.plan.specs.Scaled.{first_of}
 use Rattle.plan.specs.Sound.{SoundFirst}
 use Rattle.first.specs.First.{slice_of, start_of_slice}
 use Rattle.first.specs.Near.{reads49}
-use Rattle.first.specs.FirstLaw.{row_in, first_from, first_from_lem, first_sound}
+use Rattle.first.specs.FirstLaw.{first_from}
+use Rattle.first.proofs.FirstLaw.{row_in, first_from_lem, first_sound}
 use Rattle.first.proofs.first.first_of.Goals as goal
 use Rattle.first.proofs.first.first_of.Goals.{After-image_row-image_row}
 

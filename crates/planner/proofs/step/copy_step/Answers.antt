@@ -2,7 +2,7 @@
 use Rattle.std.proofs.Common.{sym, ◌∙◌}
 use Rattle.object.specs.declared.types.Verdict.TheVariants as verdict
 use Rattle.planner.specs.declared.types.Course.TheVariants as course
-use Rattle.planner.specs.Step.{step_given, step_stopped, step_refused, copy_given, copy_too_big, copy_overflow, copy_finished}
+use Rattle.planner.proofs.StepLaws.{step_given, step_stopped, step_refused, copy_given, copy_too_big, copy_overflow, copy_finished}
 use Rattle.planner.proofs.step.copy_step.Goals as goal
 
 pub give-requires : goal.give-requires

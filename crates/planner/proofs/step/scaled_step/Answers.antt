@@ -1,6 +1,6 @@
 -- What the scaled walk answers picks the law of the planner's step.
 use Rattle.planner.specs.declared.types.Course.TheVariants as course
-use Rattle.planner.specs.Step.{step_refused, step_scaled}
+use Rattle.planner.proofs.StepLaws.{step_refused, step_scaled}
 use Rattle.planner.proofs.step.scaled_step.Goals as goal
 
 pub returns-in-At : goal.returns-in-At

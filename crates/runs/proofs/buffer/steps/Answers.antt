@@ -4,7 +4,7 @@ use Rattle.words.specs.declared.count.Counts.{Counts}
 use Rattle.words.specs.Counts.{end_with}
 use Rattle.giving.specs.Host.{words_after}
 use Rattle.planner.specs.declared.types.Given.TheVariants as given
-use Rattle.planner.specs.Step.{gave_fewer}
+use Rattle.planner.proofs.StepLaws.{gave_fewer}
 use Rattle.runs.specs.Ran.{next_place, going_start, going_more, going_places, at_in, steps_end, steps_full}
 use Rattle.runs.proofs.buffer.steps.Goals as goal
 use Rattle.runs.proofs.buffer.steps.Goals.{in-Entry+then-plan-at-lt11, in-End}

@@ -3,7 +3,8 @@ use Rattle.std.proofs.Common.{refl, sym, subst}
 use Rattle.planner.specs.declared.types.Course.{Course}
 use Rattle.planner.specs.declared.types.Course.TheVariants as course
 use Rattle.planner.specs.Coming.{StepGives}
-use Rattle.planner.specs.Step.{planner_at, step_stopped}
+use Rattle.planner.specs.Step.{planner_at}
+use Rattle.planner.proofs.StepLaws.{step_stopped}
 use Rattle.planner.proofs.types.Planner.step.Goals as goal
 
 pub returns-in-Copy : goal.returns-in-Copy

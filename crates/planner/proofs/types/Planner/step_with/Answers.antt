@@ -2,7 +2,7 @@
 use Rattle.std.proofs.Common.{refl}
 use Rattle.plan.specs.Run.{bank_after}
 use Rattle.planner.specs.declared.types.Given.TheVariants as given
-use Rattle.planner.specs.Step.{with_entry, with_end}
+use Rattle.planner.proofs.StepLaws.{with_entry, with_end}
 use Rattle.planner.proofs.types.Planner.step_with.Goals as goal
 
 pub returns-in-Entry : goal.returns-in-Entry

@@ -6,7 +6,8 @@ use Rattle.tile.specs.declared.bank.Bank.{Bank}
 use Rattle.plan.specs.Out.{Plan}
 use Rattle.plan.specs.Whole.{plan_of}
 use Rattle.plan.specs.Run.{run_of}
-use Rattle.giving.specs.Host.{run_words, bank_numbers, end_numbers, run_end, run_bank, run_buffer, nothing_written}
+use Rattle.giving.specs.Host.{run_words, bank_numbers, end_numbers}
+use Rattle.giving.proofs.HostLaws.{run_end, run_bank, run_buffer, nothing_written}
 use Rattle.request.specs.Host.{host_request}
 use Rattle.visorlongan.specs.Host.{left, ran_left, host_run}
 

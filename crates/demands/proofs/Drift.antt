@@ -10,15 +10,19 @@ use Rattle.plan.specs.declared.types.End.{End}
 use Rattle.plan.specs.Request.{Request}
 use Rattle.plan.specs.Whole.{plan_of}
 use Rattle.plan.specs.Demand.{drift_of, strips_of, AllNear, Apt}
-use Rattle.drift.specs.Prefix.{entries_in, given_is, first_near}
-use Rattle.drift.specs.Words.{rects_from, run_near}
+use Rattle.drift.specs.Prefix.{entries_in}
+use Rattle.drift.proofs.Prefix.{given_is, first_near}
+use Rattle.drift.specs.Words.{rects_from}
+use Rattle.drift.proofs.Words.{run_near}
 use Rattle.planner.specs.declared.types.Planner.{Planner}
-use Rattle.giving.specs.Host.{end_numbers, run_words, run_end, run_buffer}
+use Rattle.giving.specs.Host.{end_numbers, run_words}
+use Rattle.giving.proofs.HostLaws.{run_end, run_buffer}
 use Rattle.planner.specs.Coming.{Fresh, request_of}
 use Rattle.runs.specs.Ran.{RanIs}
 use Rattle.request.specs.Host.{host_request}
 use Rattle.visorlongan.specs.Host.{left, ran_left, host_run}
-use Rattle.demands.specs.Steps.{Steps, StepsAlone, with_bank, answered_is}
+use Rattle.demands.specs.Steps.{Steps, StepsAlone}
+use Rattle.demands.proofs.Steps.{with_bank, answered_is}
 
 module _ (bytes : List ℕ) (opcode : ℕ) (scissor : Scissor) (mode address : ℕ) (apt : Apt (request_of bytes opcode scissor mode address)) where
   -- every line of every rectangle among the answers of any list of steps

@@ -1,0 +1,2 @@
+-- The tables' rule.
+pub mod Table

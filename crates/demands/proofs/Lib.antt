@@ -1,0 +1,8 @@
+-- Laws of the definitions in specs/.
+pub mod Drift
+pub mod Early
+pub mod Steps
+pub mod Calls
+pub mod Stepped
+pub mod Applied
+pub mod Loads

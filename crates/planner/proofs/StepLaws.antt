@@ -1,0 +1,211 @@
+-- From one step of a course to one step of the planner: the counts and the bank go with the entry.
+-- Assumes nothing.
+use Rattle.std.specs.Prelude.{◌≡◌, refl, List, [], ◌∷◌, ℕ, suc, ◌≤◌, ◌<◌, length, drop}
+use Rattle.std.proofs.Math.Path.{sym, ap}
+use Rattle.std.proofs.Common.{◌∙◌}
+use native.Mathlib.Omega.{arith}
+use Rattle.object.specs.declared.types.Verdict.{Verdict}
+use Rattle.object.specs.declared.types.Verdict.TheVariants as verdict
+use Rattle.tile.specs.declared.bank.Bank.{Bank}
+use Rattle.plan.specs.declared.types.Entry.{Entry}
+use Rattle.plan.specs.declared.types.Answer.TheVariants as answer
+use Rattle.plan.specs.declared.types.End.{End}
+use Rattle.plan.specs.Out.{Plan}
+use Rattle.plan.specs.Next.{cons, ended}
+use Rattle.plan.specs.Sound.{EntryIn, Narrow}
+use Rattle.plan.specs.Run.{bank_step, bank_after}
+use Rattle.plan.specs.Steps.{Coming, next_of, answer_of, bank_next}
+use Rattle.copy.specs.declared.types.Stage.{Stage}
+use Rattle.copy.specs.declared.types.Place.{Place}
+use Rattle.copy.specs.declared.types.CopyNext.TheVariants as copied
+use Rattle.copy.specs.Walk as walk
+use Rattle.copy.specs.Walk.{copy_next_of}
+use Rattle.copy.specs.Small.{next_in}
+use Rattle.copy.specs.Coming.{coming_copy, copy_follows}
+use Rattle.copy.specs.Kept.{left_copy, copy_kept}
+use Rattle.loads.specs.declared.types.Stage as scaled
+use Rattle.loads.specs.declared.types.Place as scaled_place
+use Rattle.loads.specs.declared.types.Reached.{Reached}
+use Rattle.loads.specs.declared.types.Reached.TheVariants as reached
+use Rattle.loads.specs.declared.types.ScaledNext.TheVariants as gave
+use Rattle.loads.specs.Coming.{coming_scaled, coming_reached}
+use Rattle.loads.specs.Sound.{SoundReached, left_at, left_reached, Gave}
+use Rattle.words.specs.declared.count.Counts.{Counts}
+use Rattle.words.specs.Counts.{counted_of, counted_all, end_with}
+use Rattle.words.proofs.CountsLaws.{counted_countable, counted_entries}
+use Rattle.planner.specs.declared.types.Course.{Course}
+use Rattle.planner.specs.declared.types.Course.TheVariants as course
+use Rattle.planner.specs.declared.types.Planner.{Planner}
+use Rattle.planner.specs.declared.types.Given.{Given}
+use Rattle.planner.specs.declared.types.Given.TheVariants as given
+use Rattle.planner.specs.declared.types.Step.{Step}
+use Rattle.planner.specs.Coming.{coming_course, coming_from, coming, SoundCourse, left_course, Sound, counts_next, answer_in, left_in, GivenIn, left_next, StepGives, StepIs, give_of, stop_of, refuse_of, course_of}
+use Rattle.planner.specs.Step.{planner_at}
+
+-- what is to come of a planner whose plan starts with e
+given_answer : (p : Plan) (n : Counts) (e : Entry) (q : Plan) → p ≡ cons e q → answer_of (coming_from p n).entries (coming_from p n).end ≡ answer.Entry e
+given_answer p n e q i = rw i
+
+-- an entry is given
+module _ (w w' : Course) (n : Counts) (e : Entry) (i : coming_course w ≡ cons e (coming_course w')) where
+  given_left : ◌≡◌ {A = List Entry} [] (left_next (coming_from (coming_course w) n).entries (coming_from (coming_course w) n).left)
+  given_left = rw i
+
+  given_rest : coming_from (coming_course w') (counted_of n e) ≡ next_of (coming_from (coming_course w) n).entries (coming_from (coming_course w) n).left (coming_from (coming_course w) n).end
+  unfolding counted_all
+  given_rest = rw i
+
+  given_counts : counted_of n e ≡ counts_next (coming_from (coming_course w) n).entries n
+  given_counts = rw i
+
+  given_more : (coming_from (coming_course w) n).entries ≡ [] → ⊥
+  given_more h = let k : e ∷ (coming_course w').entries ≡ [] = rw i at h in let z : ◌≡◌ {A = ℕ} 0 1 = cc in omega arith
+
+  pub step_given : EntryIn e → SoundCourse w' → suc (left_course w') ≤ left_course w → Sound (planner_at w n) → StepGives (planner_at w n) (give_of w' n e)
+  unfolding coming
+  step_given a s l h =
+      let f = h.few in
+      let k = counted_entries n e in
+      record {
+        answer = sym (given_answer (coming_course w) n e (coming_course w') i);
+        left = given_left;
+        ranges = a;
+        rest = given_rest;
+        counts = given_counts;
+        over = λ h. absurd (given_more h);
+        sound = record { course = s; counts = counted_countable n e h.counts (omega arith) a.line; few = omega arith };
+      }
+
+-- the end
+module _ (w : Course) (n : Counts) (left : List Entry) (v : Verdict) (i : coming_course w ≡ ended left v) where
+  stopped_answer : answer.End (end_with n v) ≡ answer_of (coming_from (coming_course w) n).entries (coming_from (coming_course w) n).end
+  unfolding counted_all
+  stopped_answer = rw i
+
+  stopped_left : left ≡ left_next (coming_from (coming_course w) n).entries (coming_from (coming_course w) n).left
+  stopped_left = rw i
+
+  stopped_rest : coming_from (ended [] v) n ≡ next_of (coming_from (coming_course w) n).entries (coming_from (coming_course w) n).left (coming_from (coming_course w) n).end
+  unfolding counted_all
+  stopped_rest = rw i
+
+  stopped_counts : n ≡ counts_next (coming_from (coming_course w) n).entries n
+  stopped_counts = rw i
+
+  step_ended : (g : Given) → answer_in g ≡ answer.End (end_with n v) → left_in g ≡ left → GivenIn g → Sound (planner_at w n) → StepGives (planner_at w n) (record { planner = planner_at (course.Over v) n; given = g })
+  unfolding coming
+  step_ended g a l t h =
+      let f = h.few in
+      record {
+        answer = a ∙ stopped_answer;
+        left = l ∙ stopped_left;
+        ranges = t;
+        rest = stopped_rest;
+        counts = stopped_counts;
+        over = λ h. ap (λ (q : Plan). course.Over q.verdict) (sym i);
+        sound = record { course = tt; counts = h.counts; few = omega arith };
+      }
+
+pub step_stopped : (w : Course) (n : Counts) (v : Verdict) → coming_course w ≡ ended [] v → Sound (planner_at w n) → StepGives (planner_at w n) (stop_of n v)
+step_stopped w n v i h = step_ended w n [] v i (given.End (end_with n v)) refl refl tt h
+
+pub step_refused : (w : Course) (n : Counts) (s : Entry) → coming_course w ≡ ended (s ∷ []) verdict.Address → Narrow s → Sound (planner_at w n) → StepGives (planner_at w n) (refuse_of n s)
+step_refused w n s i t h = step_ended w n (s ∷ []) verdict.Address i (given.Refused s (end_with n verdict.Address)) refl refl t h
+
+-- where no entry is to come, the end has the counts so far
+pub counts_at_end : (p : Planner) → (coming p).entries ≡ [] → (coming p).end ≡ end_with p.counts (coming p).end.verdict
+unfolding coming counted_all
+counts_at_end p none = ap (λ (es : List Entry). end_with (counted_all p.counts es) (coming_course p.course).verdict) none
+
+-- ---- copy
+
+module _ (s : Stage) (p : Place) (h : walk.SoundAt s p) where
+  -- what the walk answers, by its constructor
+  pub copy_given : (e : Entry) (s' : Stage) (p' : Place) → copy_next_of s p ≡ copied.Entry e s' p'
+      → (coming_copy s p ≡ cons e (coming_copy s' p')) × (EntryIn e × (walk.SoundAt s' p' × (suc (left_copy s' p') ≤ left_copy s p)))
+  copy_given e s' p' i =
+      let f = rw i at (copy_follows s p h) in
+      let k = rw i at (copy_kept s p h) in
+      (f, (rw i at (next_in s p h), (k.sound, k.less)))
+
+  pub copy_too_big : copy_next_of s p ≡ copied.TooBig → coming_copy s p ≡ ended [] verdict.TooBig
+  copy_too_big i = rw i at (copy_follows s p h)
+
+  pub copy_overflow : (e : Entry) → copy_next_of s p ≡ copied.Overflow e → (coming_copy s p ≡ ended (e ∷ []) verdict.Address) × Narrow e
+  copy_overflow e i = (rw i at (copy_follows s p h), rw i at (next_in s p h))
+
+  pub copy_finished : copy_next_of s p ≡ copied.Finished → coming_copy s p ≡ ended [] verdict.Finished
+  copy_finished i = rw i at (copy_follows s p h)
+
+-- ---- scaled
+
+-- what the walk reaches, as a course
+reached_is : (r : Reached) → coming_course (course_of r) ≡ coming_reached r
+reached_is (reached.At s p) = refl
+reached_is (reached.Ended v) = refl
+
+reached_sound : (r : Reached) → SoundReached r → SoundCourse (course_of r)
+reached_sound (reached.At s p) h = h
+reached_sound (reached.Ended v) h = tt
+
+reached_left : (r : Reached) (n : ℕ) → suc (left_reached r) ≤ n → suc (left_course (course_of r)) ≤ n
+reached_left (reached.At s p) n h = h
+reached_left (reached.Ended v) n h = h
+
+pub step_scaled : (s : scaled.Stage) (p : scaled_place.Place) (n : Counts) (e : Entry) (r : Reached) → Gave (coming_scaled s p) (left_at s p) (gave.Entry e r) → Sound (planner_at (course.Scaled s p) n)
+    → StepGives (planner_at (course.Scaled s p) n) (give_of (course_of r) n e)
+step_scaled s p n e r g h =
+    step_given (course.Scaled s p) (course_of r) n e (g.0 ∙ ap (cons e) (sym (reached_is r))) g.1.1.1 (reached_sound r g.1.0) (reached_left r (left_at s p) g.1.1.0) h
+
+-- ---- what a step gives says of what is to come
+
+pub came : (es : List Entry) (x : End) (e : Entry) → answer_of es x ≡ answer.Entry e → es ≡ e ∷ drop 1 es
+came [] x e i = let z : ◌≡◌ {A = ℕ} 0 1 = cc in absurd (omega arith)
+came (y ∷ es) x e i = let k : y ≡ e = cc in ap (λ (d : Entry). d ∷ es) k
+
+pub ended_there : (es : List Entry) (x e : End) → answer_of es x ≡ answer.End e → (es ≡ []) × (e ≡ x)
+ended_there [] x e i = let k : x ≡ e = cc in (refl, sym k)
+ended_there (y ∷ es) x e i = let z : ◌≡◌ {A = ℕ} 0 1 = cc in absurd (omega arith)
+
+module _ (p : Planner) (s : Step) (i : StepGives p s) where
+  pub gave_entry : (e : Entry) → s.given ≡ given.Entry e → (coming p).entries ≡ e ∷ drop 1 (coming p).entries
+  gave_entry e g = came (coming p).entries (coming p).end e (sym i.answer ∙ ap answer_in g)
+
+  -- the planner has the rest to come
+  pub gave_rest : (e : Entry) → s.given ≡ given.Entry e → coming s.planner ≡ record { entries = drop 1 (coming p).entries; left = (coming p).left; end = (coming p).end }
+  gave_rest e g = i.rest ∙ ap (λ (es : List Entry). next_of es (coming p).left (coming p).end) (gave_entry e g)
+
+  -- one entry less is to come
+  pub gave_fewer : (e : Entry) → s.given ≡ given.Entry e → length (coming s.planner).entries < length (coming p).entries
+  gave_fewer e g = omega (arith, ap (λ (c : Coming). length c.entries) (gave_rest e g), ap length (gave_entry e g), longer e (drop 1 (coming p).entries))
+    where
+      longer : (e : Entry) (es : List Entry) → length (e ∷ es) ≡ suc (length es)
+      longer e es = refl
+
+  -- the end: no entries, the end itself, and the sizes that are set
+  pub gave_end : (g : Given) → s.given ≡ g → (x : End) → answer_in g ≡ answer.End x → ((coming p).entries ≡ []) × ((x ≡ (coming p).end) × ((coming p).left ≡ left_in g))
+  gave_end g k x a =
+      let t = ended_there (coming p).entries (coming p).end x (sym i.answer ∙ ap answer_in k ∙ a) in
+      (t.0, (t.1, ap (λ (es : List Entry). left_next es (coming p).left) (sym t.0) ∙ sym i.left ∙ ap left_in k))
+
+  -- a step with a bank
+  pub with_entry : (b : Bank) (e : Entry) → s.given ≡ given.Entry e → (b' : Bank) → b' ≡ bank_step b e → StepIs p b (record { planner = s.planner; bank = b'; answer = answer.Entry e })
+  with_entry b e g b' k =
+      record {
+        answer = sym (ap answer_in g) ∙ i.answer;
+        rest = i.rest;
+        bank = k ∙ ap (λ (es : List Entry). bank_next es (coming p).left b) (sym (gave_entry e g));
+        counts = i.counts;
+        sound = i.sound;
+      }
+
+  pub with_end : (b : Bank) (g : Given) → s.given ≡ g → (x : End) → answer_in g ≡ answer.End x → (b' : Bank) → b' ≡ bank_after b (left_in g) → StepIs p b (record { planner = s.planner; bank = b'; answer = answer.End x })
+  with_end b g k x a b' j =
+      let t = gave_end g k x a in
+      record {
+        answer = sym a ∙ sym (ap answer_in k) ∙ i.answer;
+        rest = i.rest;
+        bank = j ∙ ap (bank_after b) (sym t.1.1) ∙ ap (λ (es : List Entry). bank_next es (coming p).left b) (sym t.0);
+        counts = i.counts;
+        sound = i.sound;
+      }
