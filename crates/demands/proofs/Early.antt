@@ -29,9 +29,6 @@ use Rattle.plan.specs.Load.{load_out, load_tile, source_address}
 use Rattle.plan.specs.Copy.{field, strip_entries, strip, strip_of, columns, rows, copy_empty, copy_of, copy_plan}
 use Rattle.plan.specs.Scaled.{tile7, load_part, load_1cyc_tile, back, from_top, split_row, up_to_end, advance, load_1cyc, draw_pass, idle_pass, draw_of, pass, passes, clip_of, scaled_empty, start_of, scaled_of, slices_bad, first_of, scaled_plan}
 use Rattle.plan.specs.Whole.{copy_out, scaled_out, checked_out, plan_with, plan_of}
-use Rattle.request.specs.Host.{host_request}
-use Rattle.visorlongan.specs.Host.{host_run}
-use Rattle.visorlongan.proofs.Laws.{host_nothing}
 use Rattle.demands.specs.Early.{Nothing}
 
 -- an outcome that, if it stops, stops with 7 or more
@@ -178,8 +175,3 @@ checked_nothing (checked.Scaled bg) q =
 pub early_nothing : (q : Request) → 1 ≤ verdict_number (plan_of q).verdict → verdict_number (plan_of q).verdict ≤ 6 → ((plan_of q).entries ≡ []) × ((plan_of q).left ≡ [])
 unfolding plan_of plan_with
 early_nothing q = checked_nothing (checked_of 4 q.bytes q.opcode q.scissor) q
-
--- the same of the exported run: whatever words it was lent, those of bank and plan are as they were
-pub host_early : (object request bank plan end : List ℕ) → 1 ≤ verdict_number (plan_of (host_request object request)).verdict → verdict_number (plan_of (host_request object request)).verdict ≤ 6
-    → ((host_run object request bank plan end).bank ≡ bank) × ((host_run object request bank plan end).plan ≡ plan)
-host_early object request bank plan end low high = let n = early_nothing (host_request object request) low high in host_nothing object request bank plan end n.0 n.1

@@ -1,6 +1,7 @@
 -- Laws of the definitions in specs/.
 pub mod Drift
 pub mod Early
+pub mod EarlyRun
 pub mod Steps
 pub mod Calls
 pub mod Stepped
