@@ -1,7 +1,7 @@
 -- A host that follows a plan entry by entry has the bank of every entry: the plan's words, applied eleven at a time, set what the run sets. D is docs/SPECIFICATION.md, section 5.
 -- Assumes nothing.
 use Rattle.std.specs.Prelude.{◌≡◌, refl, Bool, true, false, cond, ◌&&◌, List, [], ◌∷◌, ◌++◌, ℕ, zero, suc, ◌+◌, ◌*◌, ◌/◌, ◌≤◌, eqb, ltb, length, take, drop, get_or}
-use Rattle.std.proofs.Common.{sym, ap, ◌∙◌, append_assoc, arith, eq-eqb, eqb-true, ltb-true, lt-ltb, take_at, drop_at}
+use Rattle.std.proofs.Common.{sym, ap, ◌∙◌, append_assoc, arith, eq-eqb, eqb-true, ltb-true, lt-ltb}
 use Rattle.std.proofs.Math.Seq.{paste}
 use Rattle.std.proofs.lemmas.List.Edits.{length-paste}
 use Rattle.plan.specs.declared.types.Entry.{Entry}
@@ -20,11 +20,6 @@ use Rattle.visorlongan.specs.Host.{left, ran_left, host_run, host_apply}
 use Rattle.small.specs.Small.{Small, AllSmall}
 use Rattle.small.specs.SmallPlans.{Asked, plan_small}
 use Rattle.demands.specs.Applied.{applied_from}
-
--- the eleven words of the first entry are applied, then the words that follow them
-pub applied_next : (n : ℕ) (ws plan bank : List ℕ) → length ws ≡ 11 → applied_from (suc n) (ws ++ plan) bank ≡ applied_from n plan (host_apply ws bank).bank
-unfolding applied_from
-applied_next n ws plan bank e = λ i. applied_from n (drop_at ws plan 11 e i) (host_apply (take_at ws plan 11 e i) bank).bank
 
 -- ---- a bank keeps its words' number
 

@@ -45,11 +45,6 @@ host_step ws bank out r ws' bank' out' c h b o s =
       has = subst (λ (d : Coming). Has ws' (next_of d.entries d.left d.end)) e m.1.has;
     }
 
--- of two calls the second is on the words that the first left
-pub two_calls : (ws bank out ws₁ bank₁ out₁ bank' out' ws₂ bank₂ out₂ : List ℕ) (r r' : ℕ) → length bank ≡ 136 → length out ≡ 11 → StepIs ws bank out r ws₁ bank₁ out₁
-    → length bank' ≡ 136 → length out' ≡ 11 → StepIs ws₁ bank' out' r' ws₂ bank₂ out₂ → Calls ws (out₁ ∷ out₂ ∷ []) ws₂
-two_calls ws bank out ws₁ bank₁ out₁ bank' out' ws₂ bank₂ out₂ r r' b o i b' o' j = call ws bank out r ws₁ bank₁ out₁ b o i (call ws₁ bank' out' r' ws₂ bank₂ out₂ b' o' j none)
-
 pub any_bank : {ws bank ws' bank' : List ℕ} {outs : List (List ℕ)} → BankCalls ws bank outs ws' bank' → Calls ws outs ws'
 any_bank none = none
 any_bank (call ws bank out r ws₁ bank₁ out' b o s rest) = call ws bank out r ws₁ bank₁ out' b o s (any_bank rest)

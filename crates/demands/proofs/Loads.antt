@@ -32,11 +32,6 @@ use Rattle.plan.specs.Laws.{entries_out, columns_on, columns_end, rows_on, rows_
 use Rattle.giving.proofs.HostLaws.{eight_still}
 use Rattle.demands.specs.Loads.{LoadsAfter, words_in}
 
--- a load counts by the line of tile 7
-pub load_counts : (b : Bank) (i uls ult lrs lrt words rows stride start len : ℕ) → words_in b (entry.Load i uls ult lrs lrt words rows stride start len ∷ []) ≡ max (rows * (get_or b.tiles 7 blank).line) 0
-unfolding words_in
-load_counts b i uls ult lrs lrt words rows stride start len = refl
-
 -- ---- a plan begins to set with tile 7
 
 after_set : (es : List Entry) → LoadsAfter true es

@@ -13,17 +13,8 @@ use Rattle.plan.specs.Whole.{plan_of}
 use Rattle.plan.specs.Run.{end_of, bank_step, bank_after}
 use Rattle.plan.specs.Steps.{Coming, next_of, answer_of, bank_next, answers, bank_to}
 use Rattle.planner.specs.declared.types.Planner.{Planner}
-use Rattle.planner.specs.declared.types.Step.{Step}
-use Rattle.planner.specs.declared.types.Stepped.{Stepped}
-use Rattle.planner.specs.Coming.{coming, answer_in, Sound, StepGives, StepIs, Fresh, request_of}
+use Rattle.planner.specs.Coming.{coming, answer_in, Sound, Fresh, request_of}
 use Rattle.demands.specs.Steps.{Steps, StepsAlone, none, step}
-
--- of two steps the second is on the planner, and on the bank, that the first handed back
-pub two_steps : (p : Planner) (b : Bank) (s t : Stepped) → StepIs p b s → StepIs s.planner s.bank t → Steps p b (s.answer ∷ t.answer ∷ []) t.planner t.bank
-two_steps p b s t i j = step s i (step t j none)
-
-pub two_alone : (p : Planner) (s t : Step) → StepGives p s → StepGives s.planner t → StepsAlone p (answer_in s.given ∷ answer_in t.given ∷ []) t.planner
-two_alone p s t i j = step s i (step t j none)
 
 -- any such list is one of steps with a bank, whatever bank is taken along
 pub with_bank : {p : Planner} {answered : List Answer} {p' : Planner} → StepsAlone p answered p' → (b : Bank) → (b' : Bank) × Steps p b answered p' b'

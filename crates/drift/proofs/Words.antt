@@ -50,17 +50,17 @@ plain_drawn (Size i uls ult lrs lrt ∷ es) fs p q = plain_drawn es fs p q
 plain_drawn (Load i uls ult lrs lrt words rows stride start len ∷ es) fs p q = plain_drawn es fs p q
 plain_drawn (Rect i ulx uly lrx lry uls ult dsdx dtdy row ∷ es) fs p q = absurd p
 
-plain_alone : (es : List Entry) → Plain es → Drawn es
-plain_alone [] p = tt
-plain_alone (Image fmt siz width address ∷ es) p = plain_alone es p
-plain_alone (Tile i fmt siz line tmem palette cms cmt masks maskt ∷ es) p = plain_alone es p
-plain_alone (Size i uls ult lrs lrt ∷ es) p = plain_alone es p
-plain_alone (Load i uls ult lrs lrt words rows stride start len ∷ es) p = plain_alone es p
-plain_alone (Rect i ulx uly lrx lry uls ult dsdx dtdy row ∷ es) p = absurd p
+drawn_alone : (es : List Entry) → Plain es → Drawn es
+drawn_alone [] p = tt
+drawn_alone (Image fmt siz width address ∷ es) p = drawn_alone es p
+drawn_alone (Tile i fmt siz line tmem palette cms cmt masks maskt ∷ es) p = drawn_alone es p
+drawn_alone (Size i uls ult lrs lrt ∷ es) p = drawn_alone es p
+drawn_alone (Load i uls ult lrs lrt words rows stride start len ∷ es) p = drawn_alone es p
+drawn_alone (Rect i ulx uly lrx lry uls ult dsdx dtdy row ∷ es) p = absurd p
 
 drawn_bind : {A B : Type 0} {P : A → Type 0} (a : Out A) (k : A → Out B) → Quiet P a → ((x : A) → Drawn (entries_out (k x))) → Drawn (entries_out (a >>= k))
 drawn_bind (go es x) k p f = rw (entries_more es (k x)) (plain_drawn es (entries_out (k x)) p.still.0 (f x))
-drawn_bind (stop es l v) k p f = plain_alone es p.still.0
+drawn_bind (stop es l v) k p f = drawn_alone es p.still.0
 
 short_t : (t : ℤ) → Below 5 t → i16 t ≡ to_z w64 (word (i16 t))
 short_t t h = let l : up t < 32 = omega zarith in rw (small_at t h, mod-eq_of_lt {n = up t} {m = 2 ^ 64} (omega arith)) (sym (to_z_pos w64 (up t) (omega arith)))
@@ -137,6 +137,9 @@ short_of (Size i uls ult lrs lrt ∷ es) d = short_of es d
 short_of (Load i uls ult lrs lrt words rows stride start len ∷ es) d = short_of es d
 short_of (Rect i ulx uly lrx lry uls ult dsdx dtdy row ∷ es) d = (d.0.1, short_of es d.1)
 
+plain_alone : (es : List Entry) → Plain es → Short es
+plain_alone es p = short_of es (drawn_alone es p)
+
 plain_short : (es fs : List Entry) → Plain es → Short fs → Short (es ++ fs)
 plain_short [] fs p q = q
 plain_short (Image fmt siz width address ∷ es) fs p q = plain_short es fs p q
@@ -155,7 +158,7 @@ short_prefix (Rect i ulx uly lrx lry uls ult dsdx dtdy row ∷ es) fs q = (q.0, 
 
 short_bind : {A B : Type 0} {P : A → Type 0} (a : Out A) (k : A → Out B) → Quiet P a → ((x : A) → Short (entries_out (k x))) → Short (entries_out (a >>= k))
 short_bind (go es x) k p f = rw (entries_more es (k x)) (plain_short es (entries_out (k x)) p.still.0 (f x))
-short_bind (stop es l v) k p f = short_of es (plain_alone es p.still.0)
+short_bind (stop es l v) k p f = plain_alone es p.still.0
 
 pub short_passes : (n : ℕ) (z : Scaled) (w : Walk) → Below 5 w.t.0 → Short (entries_out (passes n z w))
 short_passes n z w h = short_of (entries_out (passes n z w)) (drawn_passes n z w h)
