@@ -1,6 +1,6 @@
 -- The laws of the checks, for callers: what is known of a decoded object, and of a request that passed.
 -- Assumes nothing.
-use Rattle.std.specs.Prelude.{◌≡◌, refl, Bool, true, false, cond, List, [], ◌∷◌, ℕ, ◌+◌, ◌≤◌, ◌<◌, max, ℤ, pos}
+use Rattle.std.specs.Prelude.{◌≡◌, refl, Ok, Err, Some, None, Bool, true, false, cond, List, [], ◌∷◌, ℕ, ◌+◌, ◌≤◌, ◌<◌, max, ℤ, pos}
 use Rattle.std.proofs.Common.{sym, subst, arith, ltb-false, to_z}
 use Rattle.std.specs.Int.Signed.{lt_z}
 use Rattle.std.specs.Int.{w16, w32}
@@ -11,12 +11,10 @@ use Rattle.object.specs.declared.types.ObjBg.{ObjBg}
 use Rattle.object.specs.declared.types.Scissor.{Scissor}
 use Rattle.object.specs.declared.types.Verdict.{Verdict}
 use Rattle.object.specs.declared.types.Verdict.TheVariants as verdict
-use Rattle.object.specs.declared.types.Checked.{Checked}
-use Rattle.object.specs.declared.types.Checked.TheVariants as checked
-use Rattle.object.specs.declared.decode.Decoded.TheVariants as decoded
+use Rattle.object.specs.declared.types.Background.TheVariants as background
 use Rattle.object.specs.Layout.{layout, value_of, decode, decoded_by, decoded_of, Bytes}
 use Rattle.object.specs.Reads.{read_below}
-use Rattle.checks.specs.Check.{any, edge_bad, scissor_bad, object_faults, copy_faults, opcode_bad, copies, short, refused_by, object_of, checked_of}
+use Rattle.checks.specs.Check.{Checked, any, edge_bad, scissor_bad, object_faults, copy_faults, opcode_bad, copies, short, refused_by, object_of, checked_of}
 use Rattle.measures.specs.Range.{Below, Within}
 use Rattle.checks.specs.Known.{InRange, EdgesIn, Passed, PassedCopy, PassedScaled, KnownOf, CheckedIs}
 
@@ -68,11 +66,11 @@ falses (t ∷ ts) e = let h = or_false t (any ts) e in (h.0, falses ts h.1)
 -- ---- the checks
 
 -- what holds of each refusal, and of what comes after a check, holds of both together
-refused_or : (K : Checked → Type 0) → ((v : Verdict) → K (checked.Refused v)) → (t : Bool) (v : Verdict) (rest : Checked) → (t ≡ false → K rest) → K (refused_by t v rest)
+refused_or : (K : Checked → Type 0) → ((v : Verdict) → K (Err v)) → (t : Bool) (v : Verdict) (rest : Checked) → (t ≡ false → K rest) → K (refused_by t v rest)
 refused_or K r true v rest f = r v
 refused_or K r false v rest f = f refl
 
-through : (K : Checked → Type 0) → ((v : Verdict) → K (checked.Refused v)) → (p : ℕ) (bs : List ℕ) (opcode : ℕ) (s : Scissor)
+through : (K : Checked → Type 0) → ((v : Verdict) → K (Err v)) → (p : ℕ) (bs : List ℕ) (opcode : ℕ) (s : Scissor)
     → (scissor_bad s ≡ false → K (object_of (copies opcode) (decode p (copies opcode) bs))) → K (checked_of p bs opcode s)
 unfolding checked_of
 through K r p bs opcode s f =
@@ -81,15 +79,15 @@ through K r p bs opcode s f =
     let second = refused_by (short p opcode bs) verdict.Short third in
     refused_or K r (opcode_bad opcode) verdict.Opcode second (λ _. refused_or K r (short p opcode bs) verdict.Short third (λ _. refused_or K r (scissor_bad s) verdict.Scissor last f))
 
-through_copy : (K : Checked → Type 0) → ((v : Verdict) → K (checked.Refused v)) → (bg : ObjBg) → (any (object_faults bg) ≡ false → any (copy_faults bg) ≡ false → K (checked.Copy bg)) → K (object_of true bg)
+through_copy : (K : Checked → Type 0) → ((v : Verdict) → K (Err v)) → (bg : ObjBg) → (any (object_faults bg) ≡ false → any (copy_faults bg) ≡ false → K (Ok (background.Copy bg))) → K (object_of true bg)
 unfolding object_of
 through_copy K r bg f =
-    let last = refused_by (any (copy_faults bg)) verdict.Copy (checked.Copy bg) in
-    refused_or K r (any (object_faults bg)) verdict.Object last (λ e. refused_or K r (any (copy_faults bg)) verdict.Copy (checked.Copy bg) (f e))
+    let last = refused_by (any (copy_faults bg)) verdict.Copy (Ok (background.Copy bg)) in
+    refused_or K r (any (object_faults bg)) verdict.Object last (λ e. refused_or K r (any (copy_faults bg)) verdict.Copy (Ok (background.Copy bg)) (f e))
 
-through_scaled : (K : Checked → Type 0) → ((v : Verdict) → K (checked.Refused v)) → (bg : ObjBg) → (any (object_faults bg) ≡ false → K (checked.Scaled bg)) → K (object_of false bg)
+through_scaled : (K : Checked → Type 0) → ((v : Verdict) → K (Err v)) → (bg : ObjBg) → (any (object_faults bg) ≡ false → K (Ok (background.Scaled bg))) → K (object_of false bg)
 unfolding object_of
-through_scaled K r bg f = refused_or K r (any (object_faults bg)) verdict.Object (checked.Scaled bg) f
+through_scaled K r bg f = refused_or K r (any (object_faults bg)) verdict.Object (Ok (background.Scaled bg)) f
 
 edge_in : (z : ℤ) → edge_bad z ≡ false → Below 10 z
 edge_in z e =
@@ -143,18 +141,18 @@ object_known p false bs s h b = through_scaled (KnownOf s) (λ v. tt) (decode p 
 pub checked_known : (p : ℕ) (bs : List ℕ) (opcode : ℕ) (s : Scissor) → Bytes bs → KnownOf s (checked_of p bs opcode s)
 checked_known p bs opcode s h = through (KnownOf s) (λ v. tt) p bs opcode s (object_known p (copies opcode) bs s h)
 
-pub passed_copy : (p : ℕ) (bs : List ℕ) (opcode : ℕ) (s : Scissor) (bg : ObjBg) → Bytes bs → checked_of p bs opcode s ≡ checked.Copy bg → PassedCopy bg s
+pub passed_copy : (p : ℕ) (bs : List ℕ) (opcode : ℕ) (s : Scissor) (bg : ObjBg) → Bytes bs → checked_of p bs opcode s ≡ Ok (background.Copy bg) → PassedCopy bg s
 passed_copy p bs opcode s bg h e = subst (KnownOf s) e (checked_known p bs opcode s h)
 
-pub passed_scaled : (p : ℕ) (bs : List ℕ) (opcode : ℕ) (s : Scissor) (bg : ObjBg) → Bytes bs → checked_of p bs opcode s ≡ checked.Scaled bg → PassedScaled bg s
+pub passed_scaled : (p : ℕ) (bs : List ℕ) (opcode : ℕ) (s : Scissor) (bg : ObjBg) → Bytes bs → checked_of p bs opcode s ≡ Ok (background.Scaled bg) → PassedScaled bg s
 passed_scaled p bs opcode s bg h e = subst (KnownOf s) e (checked_known p bs opcode s h)
 
 -- ---- what passes is what the bytes hold
 
 abbrev HeldBy : ℕ → List ℕ → Checked → Type 0
-HeldBy p bs (checked.Copy bg) = bg ≡ decode p true bs
-HeldBy p bs (checked.Scaled bg) = bg ≡ decode p false bs
-HeldBy p bs (checked.Refused v) = Unit {0}
+HeldBy p bs (Ok (background.Copy bg)) = bg ≡ decode p true bs
+HeldBy p bs (Ok (background.Scaled bg)) = bg ≡ decode p false bs
+HeldBy p bs (Err v) = Unit {0}
 
 object_held : (p : ℕ) (copy : Bool) (bs : List ℕ) → HeldBy p bs (object_of copy (decode p copy bs))
 object_held p true bs = through_copy (HeldBy p bs) (λ v. tt) (decode p true bs) (λ e f. refl)
@@ -163,31 +161,31 @@ object_held p false bs = through_scaled (HeldBy p bs) (λ v. tt) (decode p false
 checked_held : (p : ℕ) (bs : List ℕ) (opcode : ℕ) (s : Scissor) → HeldBy p bs (checked_of p bs opcode s)
 checked_held p bs opcode s = through (HeldBy p bs) (λ v. tt) p bs opcode s (λ b. object_held p (copies opcode) bs)
 
-pub checked_copy_is : (p : ℕ) (bs : List ℕ) (opcode : ℕ) (s : Scissor) (bg : ObjBg) → checked_of p bs opcode s ≡ checked.Copy bg → bg ≡ decode p true bs
+pub checked_copy_is : (p : ℕ) (bs : List ℕ) (opcode : ℕ) (s : Scissor) (bg : ObjBg) → checked_of p bs opcode s ≡ Ok (background.Copy bg) → bg ≡ decode p true bs
 checked_copy_is p bs opcode s bg e = subst (HeldBy p bs) e (checked_held p bs opcode s)
 
-pub checked_scaled_is : (p : ℕ) (bs : List ℕ) (opcode : ℕ) (s : Scissor) (bg : ObjBg) → checked_of p bs opcode s ≡ checked.Scaled bg → bg ≡ decode p false bs
+pub checked_scaled_is : (p : ℕ) (bs : List ℕ) (opcode : ℕ) (s : Scissor) (bg : ObjBg) → checked_of p bs opcode s ≡ Ok (background.Scaled bg) → bg ≡ decode p false bs
 checked_scaled_is p bs opcode s bg e = subst (HeldBy p bs) e (checked_held p bs opcode s)
 
 -- ---- the checks, from what the decoder gives
 
-long : (t : Bool) (x bg : ObjBg) → decoded_by t x ≡ decoded.Object bg → (t ≡ false) × (x ≡ bg)
+long : (t : Bool) (x bg : ObjBg) → decoded_by t x ≡ Some bg → (t ≡ false) × (x ≡ bg)
 long true x bg e = let z : ◌≡◌ {A = ℕ} 0 1 = cc in absurd (omega arith)
 long false x bg e = (refl, cc)
 
-cut : (t : Bool) (x : ObjBg) → decoded_by t x ≡ decoded.Short → t ≡ true
+cut : (t : Bool) (x : ObjBg) → decoded_by t x ≡ None → t ≡ true
 cut true x e = refl
 cut false x e = let z : ◌≡◌ {A = ℕ} 0 1 = cc in absurd (omega arith)
 
-pub opcode_refused : (p : ℕ) (bs : List ℕ) (opcode : ℕ) (s : Scissor) → opcode_bad opcode ≡ true → checked.Refused verdict.Opcode ≡ checked_of p bs opcode s
+pub opcode_refused : (p : ℕ) (bs : List ℕ) (opcode : ℕ) (s : Scissor) → opcode_bad opcode ≡ true → Err verdict.Opcode ≡ checked_of p bs opcode s
 unfolding checked_of
 opcode_refused p bs opcode s o = rw o
 
-pub short_refused : (p : ℕ) (bs : List ℕ) (opcode : ℕ) (s : Scissor) → opcode_bad opcode ≡ false → decoded_of p (copies opcode) bs ≡ decoded.Short → checked.Refused verdict.Short ≡ checked_of p bs opcode s
+pub short_refused : (p : ℕ) (bs : List ℕ) (opcode : ℕ) (s : Scissor) → opcode_bad opcode ≡ false → decoded_of p (copies opcode) bs ≡ None → Err verdict.Short ≡ checked_of p bs opcode s
 unfolding checked_of decoded_of
 short_refused p bs opcode s o d = rw (o, cut (short p opcode bs) (decode p (copies opcode) bs) d)
 
-pub object_checked : (p : ℕ) (bs : List ℕ) (opcode : ℕ) (s : Scissor) (bg : ObjBg) → opcode_bad opcode ≡ false → decoded_of p (copies opcode) bs ≡ decoded.Object bg
+pub object_checked : (p : ℕ) (bs : List ℕ) (opcode : ℕ) (s : Scissor) (bg : ObjBg) → opcode_bad opcode ≡ false → decoded_of p (copies opcode) bs ≡ Some bg
     → refused_by (scissor_bad s) verdict.Scissor (object_of (copies opcode) bg) ≡ checked_of p bs opcode s
 unfolding checked_of decoded_of
 object_checked p bs opcode s bg o d = let h = long (short p opcode bs) (decode p (copies opcode) bs) bg d in rw (o, h.0, h.1)

@@ -1,13 +1,13 @@
 -- The verdicts and their numbers, and the checks of a request for verdicts 1 to 5, in the order of D 4.6. D is docs/SPECIFICATION.md, sections 2 and 4.
 -- Assumes nothing.
-use Rattle.std.specs.Prelude.{Bool, true, false, not, ◌||◌, List, [], ◌∷◌, ℕ, ◌+◌, ◌*◌, ltb, eqb, ℤ, pos, length}
+use Rattle.std.specs.Prelude.{Bool, true, false, Result, Ok, Err, not, ◌||◌, List, [], ◌∷◌, ℕ, ◌+◌, ◌*◌, ltb, eqb, ℤ, pos, length}
 use Rattle.std.specs.Int.Signed.{lt_z}
 use Rattle.object.specs.declared.types.ObjBg.{ObjBg}
 use Rattle.object.specs.declared.types.Scissor.{Scissor}
 use Rattle.object.specs.declared.types.Verdict.{Verdict}
 use Rattle.object.specs.declared.types.Verdict.TheVariants as verdict
-use Rattle.object.specs.declared.types.Checked.{Checked}
-use Rattle.object.specs.declared.types.Checked.TheVariants as checked
+use Rattle.object.specs.declared.types.Background.{Background}
+use Rattle.object.specs.declared.types.Background.TheVariants as background
 use Rattle.measures.specs.Measure.{quarters}
 use Rattle.object.specs.Layout.{size_of, decode}
 
@@ -73,15 +73,19 @@ copy_faults bg =
     ∷ ltb 1 bg.image_flip
     ∷ []
 
+-- what the checks give: a background, or the first verdict that applies
+abbrev pub Checked : Type 0
+Checked = Result Background Verdict
+
 -- a check: the verdict where the test holds, else what comes after
 abbrev pub refused_by : Bool → Verdict → Checked → Checked
-refused_by true v rest = checked.Refused v
+refused_by true v rest = Err v
 refused_by false v rest = rest
 
 -- D "1 to 5 are tried in this order", for pointers of p bytes
 unfoldable pub object_of : Bool → ObjBg → Checked
-object_of true bg = refused_by (any (object_faults bg)) verdict.Object (refused_by (any (copy_faults bg)) verdict.Copy (checked.Copy bg))
-object_of false bg = refused_by (any (object_faults bg)) verdict.Object (checked.Scaled bg)
+object_of true bg = refused_by (any (object_faults bg)) verdict.Object (refused_by (any (copy_faults bg)) verdict.Copy (Ok (background.Copy bg)))
+object_of false bg = refused_by (any (object_faults bg)) verdict.Object (Ok (background.Scaled bg))
 
 unfoldable pub checked_of : ℕ → List ℕ → ℕ → Scissor → Checked
 checked_of p bs opcode s =

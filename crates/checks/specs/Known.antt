@@ -1,13 +1,12 @@
 -- What is known of an object that was decoded, and of a request that passed the checks.
 -- Assumes nothing.
-use Rattle.std.specs.Prelude.{List, ◌≡◌, ℕ, ◌≤◌}
+use Rattle.std.specs.Prelude.{Ok, Err, List, ◌≡◌, ℕ, ◌≤◌}
 use Rattle.object.specs.declared.types.ObjBg.{ObjBg}
 use Rattle.object.specs.declared.types.Scissor.{Scissor}
-use Rattle.object.specs.declared.types.Checked.{Checked}
-use Rattle.object.specs.declared.types.Checked.TheVariants as checked
+use Rattle.object.specs.declared.types.Background.TheVariants as background
 use Rattle.measures.specs.Measure.{quarters}
 use Rattle.measures.specs.Range.{Below, Within}
-use Rattle.checks.specs.Check.{checked_of}
+use Rattle.checks.specs.Check.{Checked, checked_of}
 
 -- the ranges of the fields that a plan computes with
 pub record InRange (bg : ObjBg) : Type 0 where
@@ -57,9 +56,9 @@ pub record PassedScaled (bg : ObjBg) (s : Scissor) : Type 0 where
 
 -- by what the checks gave
 abbrev pub KnownOf : Scissor → Checked → Type 0
-KnownOf s (checked.Copy bg) = PassedCopy bg s
-KnownOf s (checked.Scaled bg) = PassedScaled bg s
-KnownOf s (checked.Refused v) = Unit {0}
+KnownOf s (Ok (background.Copy bg)) = PassedCopy bg s
+KnownOf s (Ok (background.Scaled bg)) = PassedScaled bg s
+KnownOf s (Err v) = Unit {0}
 
 -- pointers are of 4 bytes
 pub record CheckedIs (bs : List ℕ) (opcode : ℕ) (s : Scissor) (r : Checked) : Type 0 where

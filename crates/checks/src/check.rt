@@ -1,10 +1,10 @@
 // The checks of a request, in the verdicts' order.
 ghost use Rattle.std.specs.Prelude.{◌≡◌, ◌<◌, ◌^◌, ltb};
-ghost use Rattle.checks.specs.Check.{verdict_number, any, opcode_bad, edge_bad, scissor_bad, object_faults, copy_faults, refused_by, object_of};
+ghost use Rattle.checks.specs.Check.{verdict_number, any, opcode_bad, edge_bad, scissor_bad, object_faults, copy_faults, object_of};
 ghost use Rattle.checks.specs.Known.{CheckedIs};
 
 use measures::{quarters, strip_lines, texels};
-use object::{Checked, Decoded, ObjBg, Scissor, Verdict, decode_obj_bg};
+use object::{Background, ObjBg, Scissor, Verdict, decode_obj_bg};
 
 // Bytes of a pointer in the object.
 const POINTER: usize = 4;
@@ -12,19 +12,7 @@ const POINTER: usize = 4;
 pub fn number(v: Verdict) -> u64
     ensures { result ≡ verdict_number v }
 {
-    match v {
-        Verdict::Finished => 0,
-        Verdict::Opcode => 1,
-        Verdict::Short => 2,
-        Verdict::Scissor => 3,
-        Verdict::Object => 4,
-        Verdict::Copy => 5,
-        Verdict::Slices => 6,
-        Verdict::TooBig => 7,
-        Verdict::Piece => 8,
-        Verdict::Address => 9,
-        Verdict::Full => 10,
-    }
+    v as u64
 }
 
 fn opcode_bad(opcode: u8) -> bool
@@ -57,12 +45,6 @@ fn object_bad(bg: ObjBg) -> bool
         | !((bg.image_load == 0x0033) | (bg.image_load == 0xfff4))
 }
 
-fn wide(n: u16) -> u32
-    ensures { (result ≡ n) × (result < 2 ^ 16) }
-{
-    n as u32
-}
-
 // Any bit above the lowest.
 fn flip_bad(flip: u16) -> bool
     ensures { result ≡ ltb 1 flip }
@@ -73,54 +55,43 @@ fn flip_bad(flip: u16) -> bool
 fn copy_bad(bg: ObjBg) -> bool
     ensures { result ≡ any (copy_faults bg) }
 {
-    let product = (wide(bg.tmem_size) << 16) | wide(bg.tmem_load_sh);
+    let product = (u32::from(bg.tmem_size) << 16) | u32::from(bg.tmem_load_sh);
     (bg.image_load != 0xfff4)
         | (strip_lines(bg.tmem_h) == 0)
         | (texels(bg.image_w) == 0)
         | (texels(bg.image_h) == 0)
         | (bg.tmem_size_w == 0)
-        | (product != wide(bg.tmem_h) * wide(bg.tmem_size_w))
+        | (product != u32::from(bg.tmem_h) * u32::from(bg.tmem_size_w))
         | flip_bad(bg.image_flip)
 }
 
-fn refused_by(test: bool, verdict: Verdict, rest: Checked) -> Checked
-    ensures { result ≡ refused_by test verdict rest }
-{
-    if test {
-        Checked::Refused(verdict)
-    } else {
-        rest
-    }
-}
-
-fn object_checked(copy: bool, bg: ObjBg) -> Checked
+#[tactic(auto, unfolding(crate::specs::Check::object_of))]
+fn object_checked(copy: bool, bg: ObjBg) -> Result<Background, Verdict>
     ensures { result ≡ object_of copy bg }
 {
     if object_bad(bg) {
-        return Checked::Refused(Verdict::Object);
+        return Err(Verdict::Object);
     }
-    if copy {
-        if copy_bad(bg) {
-            return Checked::Refused(Verdict::Copy);
-        }
-        return Checked::Copy(bg);
+    if !copy {
+        return Ok(Background::Scaled(bg));
     }
-    Checked::Scaled(bg)
+    if copy_bad(bg) {
+        return Err(Verdict::Copy);
+    }
+    Ok(Background::Copy(bg))
 }
 
-pub fn checked(object: &[u8], opcode: u8, scissor: Scissor) -> Checked
+// The background that is asked for, or the first verdict that applies.
+pub fn checked(object: &[u8], opcode: u8, scissor: Scissor) -> Result<Background, Verdict>
     ensures { CheckedIs object.now opcode scissor result }
 {
     if opcode_bad(opcode) {
-        return Checked::Refused(Verdict::Opcode);
+        return Err(Verdict::Opcode);
     }
     let copy = opcode == 10;
-    let Decoded::Object(bg) = decode_obj_bg(object, POINTER, copy) else {
-        return Checked::Refused(Verdict::Short);
-    };
-    refused_by(
-        scissor_bad(scissor),
-        Verdict::Scissor,
-        object_checked(copy, bg),
-    )
+    let bg = decode_obj_bg(object, POINTER, copy).ok_or(Verdict::Short)?;
+    if scissor_bad(scissor) {
+        return Err(Verdict::Scissor);
+    }
+    object_checked(copy, bg)
 }

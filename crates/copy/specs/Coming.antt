@@ -1,10 +1,9 @@
 -- What a copy walk still has to give, from each stage, as the tail of the plan's list; and each step gives the first of it.
 -- Assumes nothing.
-use Rattle.std.specs.Prelude.{◌≡◌, refl, Bool, true, false, List, [], ◌∷◌, ◌++◌, ℕ, ◌+◌, ◌<◌, ltb}
+use Rattle.std.specs.Prelude.{◌≡◌, refl, Bool, true, false, List, [], ◌∷◌, ◌++◌, ℕ, ◌+◌, ◌<◌, ltb, Option, Some, None}
 use Rattle.std.proofs.Common.{sym, ap, ◌∙◌, append_assoc, append-nil, arith, ltb-true, lt-ltb, le-ltb}
 use Rattle.object.specs.declared.types.Verdict.TheVariants as verdict
 use Rattle.load_tile.specs.declared.load.LoadRequest.{LoadRequest}
-use Rattle.load_tile.specs.declared.load.LoadRequest.TheVariants as request
 use Rattle.plan.specs.declared.types.Copy.{Copy}
 use Rattle.plan.specs.declared.types.Entry.{Entry}
 use Rattle.plan.specs.Out.{Out, more, ◌>>=◌, ◌>>◌, yield, emit, refuse, Plan, plan_out}
@@ -125,10 +124,10 @@ unfolding tile7_next coming_copy
 tile7_follows p true e = ap plan_out (too_big_lem p e)
 tile7_follows p false e = ap plan_out (fits p e) ∙ plan_more (tile_entry p 7 0 0) (tail_of stage.Tile0 p)
 
-load_follows : (p : Place) (a : Area) (q : LoadRequest) → Follows coming_walk (plan_out (load_out q 7 a.uls a.ult a.lrs a.lrt >> due_tail due.Rect p)) (as_next (load_next q a p))
+load_follows : (p : Place) (a : Area) (q : Option LoadRequest) → Follows coming_walk (plan_out (load_out q 7 a.uls a.ult a.lrs a.lrt >> due_tail due.Rect p)) (as_next (load_next q a p))
 unfolding load_next load_out coming_copy tail_of
-load_follows p a (request.Load words rows stride start length) = plan_more _ (due_tail due.Rect p)
-load_follows p a request.Overflow = refl
+load_follows p a (Some r) = plan_more _ (due_tail due.Rect p)
+load_follows p a None = refl
 
 strip_follows : (d : Due) (p : Place) → SoundCopy p.copy → (t u : Bool) → ltb (p.x + p.strip.strip_width) p.copy.width ≡ t → ltb (p.y + p.strip_height) p.copy.height ≡ u
     → Follows coming_walk (plan_out (due_tail d p)) (as_next (strip_next t u d p))

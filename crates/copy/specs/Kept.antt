@@ -1,9 +1,8 @@
 -- Each step of the copy walk keeps its place sound, and lowers the number of entries that can still come.
 -- Assumes nothing.
-use Rattle.std.specs.Prelude.{◌≡◌, refl, Bool, true, false, ℕ, ◌+◌, ◌-◌, ◌*◌, ◌≤◌, ◌<◌, ltb}
+use Rattle.std.specs.Prelude.{◌≡◌, refl, Bool, true, false, ℕ, ◌+◌, ◌-◌, ◌*◌, ◌≤◌, ◌<◌, ltb, Option, Some, None}
 use Rattle.std.proofs.Common.{arith, ltb-true, ltb-false}
 use Rattle.load_tile.specs.declared.load.LoadRequest.{LoadRequest}
-use Rattle.load_tile.specs.declared.load.LoadRequest.TheVariants as request
 use Rattle.plan.specs.declared.types.Copy.{Copy}
 use Rattle.plan.specs.Copy.{strip_row_of, strip_height_of}
 use Rattle.plan.specs.Next.{Next}
@@ -55,10 +54,10 @@ unfolding tile7_next
 tile7 p true h = tt
 tile7 p false h = let s = h.copy in record { sound = h; less = omega arith }
 
-loaded : (p : Place) (a : Area) (q : LoadRequest) → SoundPlace p → Kept (left_copy stage.Load p) (as_next (load_next q a p))
+loaded : (p : Place) (a : Area) (q : Option LoadRequest) → SoundPlace p → Kept (left_copy stage.Load p) (as_next (load_next q a p))
 unfolding load_next
-loaded p a (request.Load words rows stride start length) h = let s = h.copy in record { sound = h; less = omega arith }
-loaded p a request.Overflow h = tt
+loaded p a (Some r) h = let s = h.copy in record { sound = h; less = omega arith }
+loaded p a None h = tt
 
 right : (p : Place) → SoundPlace p → p.x + p.strip.strip_width < p.copy.width
     → KeptAt (left_copy (stage.Strip due.Rect) p) (record { stage = stage.Tile7; place = place_at p.copy (p.x + p.strip.strip_width) p.y p.sy p.strip_height })

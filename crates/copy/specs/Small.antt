@@ -1,9 +1,8 @@
 -- Every entry that the copy walk gives is small: its rows, its line, and what a tile keeps of it.
 -- Assumes nothing.
-use Rattle.std.specs.Prelude.{◌≡◌, refl, Bool, true, false, cond, ℕ, ◌≤◌, eqb}
+use Rattle.std.specs.Prelude.{◌≡◌, refl, Bool, true, false, cond, ℕ, ◌≤◌, eqb, Option, Some, None}
 use Rattle.std.proofs.Common.{arith}
 use Rattle.load_tile.specs.declared.load.LoadRequest.{LoadRequest}
-use Rattle.load_tile.specs.declared.load.LoadRequest.TheVariants as request
 use Rattle.load_tile.specs.Load.{rows_in_request}
 use Rattle.load_tile.specs.Rows.{rows_in}
 use Rattle.plan.specs.Sound.{SoundCopy, Narrow, EntryIn}
@@ -58,10 +57,10 @@ tile0_in p s = tile_in p 0 _ _ s (chosen p.copy.flip 1 (omega arith)) (chosen p.
 size_in : (p : Place) → EntryIn (size_entry p)
 size_in p = record { rows = omega arith; line = omega arith; narrow = (omega arith, (omega arith, (omega arith, omega arith))); names = refl }
 
-load_in : (q : LoadRequest) (a : Area) (p : Place) → rows_in_request q ≤ 16384 → AreaIn a → NextIn (load_next q a p)
+load_in : (q : Option LoadRequest) (a : Area) (p : Place) → rows_in_request q ≤ 16384 → AreaIn a → NextIn (load_next q a p)
 unfolding load_next
-load_in (request.Load words rows stride start length) a p h k = record { rows = h; line = omega arith; narrow = (k.uls, (k.ult, (k.lrs, k.lrt))); names = refl }
-load_in request.Overflow a p h k = (k.uls, (k.ult, (k.lrs, k.lrt)))
+load_in (Some r) a p h k = record { rows = h; line = omega arith; narrow = (k.uls, (k.ult, (k.lrs, k.lrt))); names = refl }
+load_in None a p h k = (k.uls, (k.ult, (k.lrs, k.lrt)))
 
 due_in : (d : Due) (p : Place) → EntryIn (due_entry d p)
 due_in due.Image p = record { rows = omega arith; line = omega arith; narrow = tt; names = tt }

@@ -1,11 +1,10 @@
 -- One step of the copy walk: the entry that is due, and where the walk stands after it. D is docs/SPECIFICATION.md.
 -- Assumes nothing.
-use Rattle.std.specs.Prelude.{◌≡◌, Bool, true, false, cond, [], ◌∷◌, ℕ, ◌+◌, ◌-◌, ◌*◌, ◌%◌, ◌^◌, ◌<◌, ltb, ℤ, pos, neg_ℤ}
+use Rattle.std.specs.Prelude.{◌≡◌, Bool, true, false, cond, [], ◌∷◌, ℕ, ◌+◌, ◌-◌, ◌*◌, ◌%◌, ◌^◌, ◌<◌, ltb, ℤ, pos, neg_ℤ, Option, Some, None}
 use Rattle.signed.specs.Cast.{i16}
 use Rattle.object.specs.declared.types.Verdict.TheVariants as verdict
 use Rattle.measures.specs.Measure.{quarters, of_texels, rows_high}
 use Rattle.load_tile.specs.declared.load.LoadRequest.{LoadRequest}
-use Rattle.load_tile.specs.declared.load.LoadRequest.TheVariants as request
 use Rattle.load_tile.specs.Load.{request_of}
 use Rattle.plan.specs.declared.types.Copy.{Copy}
 use Rattle.plan.specs.declared.types.Entry.{Entry}
@@ -93,7 +92,7 @@ area_of p =
       lrt = bound (p.sy + p.strip_height - 1);
     }
 
-abbrev pub request_in : Copy → Area → LoadRequest
+abbrev pub request_in : Copy → Area → Option LoadRequest
 request_in c a = request_of c.siz (field c) c.address a.uls a.ult a.lrs a.lrt
 
 -- R 531 `if flip { -load_width } else { offset } * 32`
@@ -122,9 +121,9 @@ tile7_next true p = next.TooBig
 tile7_next false p = next.Entry (tile_entry p 7 0 0) stage.Tile0 p
 
 -- D verdict 9 "a load refused by 9 has already set tile 7's size"
-unfoldable pub load_next : LoadRequest → Area → Place → CopyNext
-load_next (request.Load words rows stride start length) a p = next.Entry (entry.Load 7 a.uls a.ult a.lrs a.lrt words rows stride start length) (stage.Strip due.Rect) p
-load_next request.Overflow a p = next.Overflow (entry.Size 7 a.uls a.ult a.lrs a.lrt)
+unfoldable pub load_next : Option LoadRequest → Area → Place → CopyNext
+load_next (Some r) a p = next.Entry (entry.Load 7 a.uls a.ult a.lrs a.lrt r.words r.rows r.stride r.start r.length) (stage.Strip due.Rect) p
+load_next None a p = next.Overflow (entry.Size 7 a.uls a.ult a.lrs a.lrt)
 
 -- the strip after this one: in the row, in the next row, or none
 unfoldable pub strip_next : (in_row in_frame : Bool) → Due → Place → CopyNext

@@ -209,32 +209,26 @@ fn tile7_next(p: Place) -> CopyNext
 
 // The answer to what the load asked for.
 #[tactic(auto, unfolding(crate::specs::Walk::load_next))]
-fn loaded(request: LoadRequest, a: Area, p: Place) -> CopyNext
+fn loaded(request: Option<LoadRequest>, a: Area, p: Place) -> CopyNext
     ensures { result ≡ load_next request a p }
 {
     match request {
-        LoadRequest::Load {
-            words,
-            rows,
-            stride,
-            start,
-            length,
-        } => {
+        Some(r) => {
             let entry = Entry::Load {
                 index: 7,
                 uls: a.uls as u64,
                 ult: a.ult as u64,
                 lrs: a.lrs as u64,
                 lrt: a.lrt as u64,
-                words,
-                rows,
-                stride,
-                start,
-                length,
+                words: r.words,
+                rows: r.rows,
+                stride: r.stride,
+                start: r.start,
+                length: r.length,
             };
             CopyNext::Entry(entry, Stage::Strip(Due::Rect), p)
         }
-        LoadRequest::Overflow => {
+        None => {
             let size = Entry::Size {
                 index: 7,
                 uls: a.uls as u64,
@@ -248,7 +242,7 @@ fn loaded(request: LoadRequest, a: Area, p: Place) -> CopyNext
 }
 
 // What a load with these bounds asks for.
-pub fn request_in(c: Copy, a: Area) -> LoadRequest
+pub fn request_in(c: Copy, a: Area) -> Option<LoadRequest>
     requires { SoundCopy c }
     ensures { result ≡ request_in c a }
 {

@@ -1,13 +1,12 @@
 -- What the count of a copy plan has come to, at a row and at a cell: the numbers so far, and the end of what is still to come.
 -- Assumes nothing.
-use Rattle.std.specs.Prelude.{◌≡◌, refl, Bool, true, false, not, ℕ, ◌+◌, ◌-◌, ◌*◌, ◌/◌, ◌%◌, ◌^◌, ◌≤◌, ◌<◌, max, length}
+use Rattle.std.specs.Prelude.{◌≡◌, refl, Bool, true, false, not, ℕ, ◌+◌, ◌-◌, ◌*◌, ◌/◌, ◌%◌, ◌^◌, ◌≤◌, ◌<◌, max, length, Option, Some, None}
 use Rattle.std.proofs.Common.{sym, ap, ◌∙◌, arith, lt-ltb, le-ltb}
 use Rattle.std.proofs.Math.Nat.{mul_comm}
 use Rattle.signed.specs.Floor.{modulo}
 use Rattle.object.specs.declared.types.Verdict.{Verdict}
 use Rattle.object.specs.declared.types.Verdict.TheVariants as verdict
 use Rattle.load_tile.specs.declared.load.LoadRequest.{LoadRequest}
-use Rattle.load_tile.specs.declared.load.LoadRequest.TheVariants as request
 use Rattle.load_tile.specs.Load.{words_in, words_of, stride_of, offset_of, rows_of, granted, request_of}
 use Rattle.plan.specs.declared.types.Copy.{Copy}
 use Rattle.plan.specs.declared.types.End.{End}
@@ -52,9 +51,9 @@ image c l (stop es left v) = same v (omega arith) (omega arith) (omega arith)
 -- ---- the load of a strip
 
 -- a load that is granted, of n rows
-abbrev LoadsRows : LoadRequest → ℕ → Type 0
-LoadsRows (request.Load words rows stride start length) n = rows ≡ n
-LoadsRows request.Overflow n = ⊥
+abbrev LoadsRows : Option LoadRequest → ℕ → Type 0
+LoadsRows (Some r) n = r.rows ≡ n
+LoadsRows None n = ⊥
 
 not_not : (t : Bool) → not (not t) ≡ t
 not_not true = refl
@@ -99,7 +98,7 @@ module _ (p : Place) (s : SoundPlace p) where
   granted_is : granted start span ≡ not (refused_at p.copy p.strip p.sy p.strip_height)
   granted_is = rw (start_is, span_is) (sym (not_not _))
 
-  load_refused : refused_at p.copy p.strip p.sy p.strip_height ≡ true → request_in p.copy (area_of p) ≡ request.Overflow
+  load_refused : refused_at p.copy p.strip p.sy p.strip_height ≡ true → request_in p.copy (area_of p) ≡ None
   unfolding request_of
   load_refused g = let e = granted_is ∙ ap not g in rw (e, request_of)
 
@@ -110,7 +109,7 @@ module _ (p : Place) (s : SoundPlace p) where
 -- ---- one strip
 
 -- its entries, by what its load asked for
-abbrev strip_with : Place → LoadRequest → Out (Unit {0})
+abbrev strip_with : Place → Option LoadRequest → Out (Unit {0})
 strip_with p q =
     let a = area_of p in
     emit (tile_entry p 7 0 0) >> (emit (tile0_entry p) >> (emit (size_entry p) >> (load_out q 7 a.uls a.ult a.lrs a.lrt >> due_tail due.Rect p)))
@@ -127,15 +126,15 @@ unfolding rectangles words_from
 five p l uls ult lrs lrt words rows stride start len (go es u) = same verdict.Finished (omega arith) refl refl
 five p l uls ult lrs lrt words rows stride start len (stop es left v) = same v (omega arith) refl refl
 
-drawn : (p : Place) (l : ℕ) (q : LoadRequest) → LoadsRows q p.strip_height → p.strip.line % 2 ^ 16 ≡ p.strip.line
+drawn : (p : Place) (l : ℕ) (q : Option LoadRequest) → LoadsRows q p.strip_height → p.strip.line % 2 ^ 16 ≡ p.strip.line
     → end_from l (strip_with p q) ≡ plus 5 1 (p.strip.line * p.strip_height) (end_from p.strip.line (rest_of p))
 unfolding load_out due_tail
-drawn p l (request.Load words rows stride start length) e f =
-    five p l _ _ _ _ words rows stride start length (rest_of p) ∙ rw (e, f) (ap (λ (n : ℕ). plus 5 1 n (end_from p.strip.line (rest_of p))) (mul_comm p.strip_height p.strip.line))
-drawn p l request.Overflow e f = absurd e
+drawn p l (Some r) e f =
+    five p l _ _ _ _ _ _ _ _ _ (rest_of p) ∙ rw (e, f) (ap (λ (n : ℕ). plus 5 1 n (end_from p.strip.line (rest_of p))) (mul_comm p.strip_height p.strip.line))
+drawn p l None e f = absurd e
 
 -- three entries, and no load
-cut : (p : Place) (l : ℕ) → end_from l (strip_with p request.Overflow) ≡ record { verdict = verdict.Address; entries = 3; rectangles = 0; words = 0 }
+cut : (p : Place) (l : ℕ) → end_from l (strip_with p None) ≡ record { verdict = verdict.Address; entries = 3; rectangles = 0; words = 0 }
 unfolding load_out rectangles words_from
 cut p l = refl
 

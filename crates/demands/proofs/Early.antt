@@ -1,17 +1,16 @@
 -- The verdict table's last column for 1 to 6: nothing is written. Both walks refuse by 7, 8 and 9 alone, so a smaller verdict was given before any entry. D is docs/SPECIFICATION.md, section 4.
 -- Assumes nothing.
-use Rattle.std.specs.Prelude.{◌≡◌, refl, Bool, true, false, ◌||◌, List, [], ◌∷◌, ℕ, zero, suc, ◌≤◌, ◌%◌, ◌^◌, ltb, eqb, ℤ, pos, ◌+ℤ◌, ◌-ℤ◌}
+use Rattle.std.specs.Prelude.{◌≡◌, refl, Bool, true, false, ◌||◌, List, [], ◌∷◌, ℕ, zero, suc, ◌≤◌, ◌%◌, ◌^◌, ltb, eqb, ℤ, pos, ◌+ℤ◌, ◌-ℤ◌, Option, Some, None, Ok, Err}
 use Rattle.std.proofs.Common.{arith}
 use Rattle.std.specs.Int.Signed.{lt_z, le_z}
 use Rattle.signed.specs.Diff.{up}
 use Rattle.signed.specs.Floor.{modulo}
-use Rattle.object.specs.declared.types.Checked.{Checked}
-use Rattle.object.specs.declared.types.Checked.TheVariants as checked
+use Rattle.checks.specs.Check.{Checked}
+use Rattle.object.specs.declared.types.Background.TheVariants as background
 use Rattle.object.specs.declared.types.Verdict.{Verdict}
 use Rattle.object.specs.declared.types.Verdict.TheVariants as verdict
 use Rattle.checks.specs.Check.{verdict_number, checked_of}
 use Rattle.load_tile.specs.declared.load.LoadRequest.{LoadRequest}
-use Rattle.load_tile.specs.declared.load.LoadRequest.TheVariants as request
 use Rattle.load_tile.specs.Load.{request_of}
 use Rattle.plan.specs.declared.types.Entry.{Entry}
 use Rattle.plan.specs.declared.types.Entry.TheVariants as entry
@@ -63,10 +62,10 @@ late_address : (p : ℕ) (o : ℤ) → Late (source_address p o)
 unfolding source_address
 late_address p o = late_if (lt_z (pos p +ℤ o) (pos 0)) _ _ (late_stop _ verdict.Address (omega arith)) (late_if (ltb (up (pos p +ℤ o)) (2 ^ 64)) _ _ (late_go _ _) (late_stop _ verdict.Address (omega arith)))
 
-late_given : (r : LoadRequest) (i uls ult lrs lrt : ℕ) → Late (load_out r i uls ult lrs lrt)
+late_given : (r : Option LoadRequest) (i uls ult lrs lrt : ℕ) → Late (load_out r i uls ult lrs lrt)
 unfolding load_out
-late_given (request.Load words rows stride start length) i uls ult lrs lrt = late_go _ _
-late_given request.Overflow i uls ult lrs lrt = late_stop _ verdict.Address (omega arith)
+late_given (Some r) i uls ult lrs lrt = late_go _ _
+late_given None i uls ult lrs lrt = late_stop _ verdict.Address (omega arith)
 
 late_tile : (siz width address i uls ult lrs lrt : ℕ) → Late (load_tile siz width address i uls ult lrs lrt)
 unfolding load_tile
@@ -162,9 +161,9 @@ nothing_if false a b h k = k
 
 checked_nothing : (r : Checked) (q : Request) → Nothing (checked_out r q)
 unfolding checked_out copy_out scaled_out
-checked_nothing (checked.Refused v) q = λ low high. (refl, refl)
-checked_nothing (checked.Copy bg) q = let c = copy_of bg q.scissor q.address in nothing_if (copy_empty c) (yield tt) (copy_plan c) (λ _ _. (refl, refl)) (nothing_late (copy_plan c) (late_copy c))
-checked_nothing (checked.Scaled bg) q =
+checked_nothing (Err v) q = λ low high. (refl, refl)
+checked_nothing (Ok (background.Copy bg)) q = let c = copy_of bg q.scissor q.address in nothing_if (copy_empty c) (yield tt) (copy_plan c) (λ _ _. (refl, refl)) (nothing_late (copy_plan c) (late_copy c))
+checked_nothing (Ok (background.Scaled bg)) q =
     let c = clip_of bg q.scissor in
     let i = start_of bg c in
     let z = scaled_of bg q.mode q.address c i in

@@ -1,12 +1,12 @@
 -- Every load of a plan stands after a setting of tile 7. So tile words, which count from a line of 0, are those of the bank as it stands at each load, whatever bank a plan starts on. D is docs/SPECIFICATION.md, section 10.
 -- Assumes nothing.
-use Rattle.std.specs.Prelude.{◌≡◌, refl, Bool, true, false, cond, ◌||◌, List, [], ◌∷◌, ◌++◌, ℕ, zero, suc, ◌+◌, ◌*◌, ◌%◌, ◌^◌, max, ltb, eqb, ℤ, pos, ◌+ℤ◌, length, get_or, set}
+use Rattle.std.specs.Prelude.{◌≡◌, refl, Bool, true, false, cond, ◌||◌, List, [], ◌∷◌, ◌++◌, ℕ, zero, suc, ◌+◌, ◌*◌, ◌%◌, ◌^◌, max, ltb, eqb, ℤ, pos, ◌+ℤ◌, length, get_or, set, Ok, Err}
 use Rattle.std.proofs.Common.{sym, ap, subst, ◌∙◌, true≢false, arith, get_or-set_same, get_or-set_other, eqb-true}
 use Rattle.std.specs.Int.Signed.{lt_z}
 use Rattle.std.proofs.lemmas.Bool.{eqb-false}
 use Rattle.signed.specs.Diff.{up}
-use Rattle.object.specs.declared.types.Checked.{Checked}
-use Rattle.object.specs.declared.types.Checked.TheVariants as checked
+use Rattle.checks.specs.Check.{Checked}
+use Rattle.object.specs.declared.types.Background.TheVariants as background
 use Rattle.checks.specs.Check.{checked_of}
 use Rattle.measures.specs.Measure.{quarters, texels}
 use Rattle.object.specs.declared.types.Verdict.TheVariants as verdict
@@ -151,9 +151,9 @@ either false a b h k = k
 
 checked_loads : (r : Checked) (q : Request) → LoadsAfter false (entries_out (checked_out r q))
 unfolding checked_out copy_out scaled_out
-checked_loads (checked.Refused v) q = tt
-checked_loads (checked.Copy bg) q = let c = copy_of bg q.scissor q.address in either (copy_empty c) (yield tt) (copy_plan c) tt (copy_loads c)
-checked_loads (checked.Scaled bg) q =
+checked_loads (Err v) q = tt
+checked_loads (Ok (background.Copy bg)) q = let c = copy_of bg q.scissor q.address in either (copy_empty c) (yield tt) (copy_plan c) tt (copy_loads c)
+checked_loads (Ok (background.Scaled bg)) q =
     let c = clip_of bg q.scissor in
     let i = start_of bg c in
     let z = scaled_of bg q.mode q.address c i in

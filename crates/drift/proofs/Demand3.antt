@@ -1,6 +1,6 @@
 -- Demand 3 of every request, and of every prefix of its plan. D is docs/SPECIFICATION.md.
 -- Assumes nothing.
-use Rattle.std.specs.Prelude.{◌≡◌, refl, Bool, true, false, ◌||◌, List, [], ◌∷◌, ℕ, zero, suc, ◌+◌, ◌-◌, ◌*◌, ◌/◌, ◌%◌, ◌<◌, ◌≤◌, ◌^◌, eqb, ltb, ℤ, pos, negsuc, ◌+ℤ◌, ◌-ℤ◌, ◌*ℤ◌, ◌≤ℤ◌}
+use Rattle.std.specs.Prelude.{◌≡◌, refl, Bool, true, false, ◌||◌, List, [], ◌∷◌, ℕ, zero, suc, ◌+◌, ◌-◌, ◌*◌, ◌/◌, ◌%◌, ◌<◌, ◌≤◌, ◌^◌, eqb, ltb, ℤ, pos, negsuc, ◌+ℤ◌, ◌-ℤ◌, ◌*ℤ◌, ◌≤ℤ◌, Ok, Err}
 use Rattle.std.proofs.Common.{sym, ap, ◌∙◌, subst, arith, div-add-mod', mod-lt, ltb-true, ltb-false, eq-eqb}
 use Rattle.std.proofs.lemmas.Bool.{eqb-false}
 use Rattle.std.specs.Int.Signed.{lt_z}
@@ -21,8 +21,8 @@ use Rattle.plan.specs.declared.types.Walk.{Walk}
 use Rattle.plan.specs.Scaled.{tile7, clip_of, start_of, scaled_of, first_of, first_pass, draw_of, advance, passes, scaled_plan, scaled_empty, slices_bad}
 use Rattle.object.specs.declared.types.Verdict.{Verdict}
 use Rattle.object.specs.declared.types.Verdict.TheVariants as verdict
-use Rattle.object.specs.declared.types.Checked.{Checked}
-use Rattle.object.specs.declared.types.Checked.TheVariants as checked
+use Rattle.checks.specs.Check.{Checked}
+use Rattle.object.specs.declared.types.Background.TheVariants as background
 use Rattle.object.specs.declared.types.Scissor.{Scissor}
 use Rattle.checks.specs.Check.{any, object_faults, opcode_bad, copies, short, scissor_bad, refused_by, object_of, checked_of}
 use Rattle.plan.specs.Whole.{plan_of, plan_with, checked_out, scaled_out}
@@ -206,15 +206,15 @@ entries_is (stop es l v) = refl
 
 -- ---- the checks: a request of opcode 9 is refused, or goes on with its scaled object
 
-refused_or : (K : Checked → Type 0) → ((v : Verdict) → Refuses v → K (checked.Refused v)) → (t : Bool) (v : Verdict) (rest : Checked) → Refuses v → K rest → K (refused_by t v rest)
+refused_or : (K : Checked → Type 0) → ((v : Verdict) → Refuses v → K (Err v)) → (t : Bool) (v : Verdict) (rest : Checked) → Refuses v → K rest → K (refused_by t v rest)
 refused_or K r true v rest n h = r v n
 refused_or K r false v rest n h = h
 
-object_scaled : (K : Checked → Type 0) → ((v : Verdict) → Refuses v → K (checked.Refused v)) → (bg : ObjBg) → K (checked.Scaled bg) → K (object_of false bg)
+object_scaled : (K : Checked → Type 0) → ((v : Verdict) → Refuses v → K (Err v)) → (bg : ObjBg) → K (Ok (background.Scaled bg)) → K (object_of false bg)
 unfolding object_of
-object_scaled K r bg h = refused_or K r (any (object_faults bg)) verdict.Object (checked.Scaled bg) refl h
+object_scaled K r bg h = refused_or K r (any (object_faults bg)) verdict.Object (Ok (background.Scaled bg)) refl h
 
-pub checked_scaled : (K : Checked → Type 0) → ((v : Verdict) → Refuses v → K (checked.Refused v)) → (bs : List ℕ) (opcode : ℕ) (s : Scissor) → opcode ≡ 9 → K (checked.Scaled (decode 4 false bs)) → K (checked_of 4 bs opcode s)
+pub checked_scaled : (K : Checked → Type 0) → ((v : Verdict) → Refuses v → K (Err v)) → (bs : List ℕ) (opcode : ℕ) (s : Scissor) → opcode ≡ 9 → K (Ok (background.Scaled (decode 4 false bs))) → K (checked_of 4 bs opcode s)
 unfolding checked_of
 checked_scaled K r bs opcode s e h =
     let last = object_of (copies opcode) (decode 4 (copies opcode) bs) in

@@ -8,7 +8,7 @@ use Rattle.signed.specs.Floor.{floor_div, modulo, floor_mod, modulo_lt}
 use Rattle.object.specs.declared.types.ObjBg.{ObjBg}
 use Rattle.object.specs.declared.types.Verdict.{Verdict}
 use Rattle.object.specs.declared.types.Verdict.TheVariants as verdict
-use Rattle.object.specs.declared.types.Checked.{Checked}
+use Rattle.checks.specs.Check.{Checked}
 use Rattle.measures.specs.Measure.{quarters, texels}
 use Rattle.object.specs.Layout.{Bytes, decode}
 use Rattle.checks.specs.Check.{verdict_number}

@@ -27,7 +27,7 @@ use Rattle.plan.specs.declared.types.Walk.{Walk}
 use Rattle.plan.specs.Scaled.{tile7, clip_of, start_of, scaled_of, first_of, first_pass, draw_of, advance, load_1cyc, passes, pass, scaled_plan, scaled_empty, slices_bad}
 use Rattle.object.specs.declared.types.Verdict.TheVariants as verdict
 use Rattle.object.specs.declared.types.Verdict.TheVariants.{Full}
-use Rattle.object.specs.declared.types.Checked.{Checked}
+use Rattle.checks.specs.Check.{Checked}
 use Rattle.checks.specs.Check.{checked_of}
 use Rattle.plan.specs.Whole.{plan_of, plan_with, checked_out, scaled_out}
 use Rattle.plan.specs.Run.{Ran, rectangles, entry_words, plan_words, cut_at, end_of, run_of}

@@ -1,6 +1,6 @@
 -- Entries that are no rectangles, outcomes that have only such entries, and what that means for `AllBy`.
 -- Assumes nothing.
-use Rattle.std.specs.Prelude.{◌≡◌, refl, Bool, true, false, ◌||◌, List, [], ◌∷◌, ◌++◌, ℕ, ◌+◌, ◌-◌, ◌/◌, ◌<◌, ◌≤◌, ◌^◌, ltb, eqb, ℤ, pos, neg_ℤ, ◌+ℤ◌, ◌-ℤ◌, ◌*ℤ◌, ◌≤ℤ◌}
+use Rattle.std.specs.Prelude.{◌≡◌, refl, Bool, true, false, ◌||◌, List, [], ◌∷◌, ◌++◌, ℕ, ◌+◌, ◌-◌, ◌/◌, ◌<◌, ◌≤◌, ◌^◌, ltb, eqb, ℤ, pos, neg_ℤ, ◌+ℤ◌, ◌-ℤ◌, ◌*ℤ◌, ◌≤ℤ◌, Option, Some, None}
 use Rattle.std.specs.Int.Signed.{lt_z, le_z}
 use Rattle.signed.specs.Diff.{up, zdiff, zarith}
 use Rattle.signed.specs.Floor.{modulo}
@@ -12,7 +12,6 @@ use Rattle.object.specs.declared.types.Verdict.{Verdict}
 use Rattle.object.specs.declared.types.Verdict.TheVariants as verdict
 use Rattle.checks.specs.Check.{verdict_number}
 use Rattle.load_tile.specs.declared.load.LoadRequest.{LoadRequest}
-use Rattle.load_tile.specs.declared.load.LoadRequest.TheVariants as request
 use Rattle.load_tile.specs.Load.{request_of}
 use Rattle.plan.specs.Load.{load_out, load_tile, source_address}
 use Rattle.plan.specs.declared.types.Scaled.{Scaled}
@@ -152,10 +151,10 @@ pub quiet_address : (p : ℕ) (o : ℤ) → Quiet Any (source_address p o)
 unfolding source_address
 quiet_address p o = quiet_if (lt_z (pos p +ℤ o) (pos 0)) _ _ (quiet_stop _ verdict.Address refl) (quiet_if (ltb (up (pos p +ℤ o)) (2 ^ 64)) _ _ (quiet_yield _ tt) (quiet_stop _ verdict.Address refl))
 
-quiet_given : (r : LoadRequest) (i uls ult lrs lrt : ℕ) → Quiet Any (load_out r i uls ult lrs lrt)
+quiet_given : (r : Option LoadRequest) (i uls ult lrs lrt : ℕ) → Quiet Any (load_out r i uls ult lrs lrt)
 unfolding load_out
-quiet_given (request.Load words rows stride start length) i uls ult lrs lrt = record { still = (tt, tt) }
-quiet_given request.Overflow i uls ult lrs lrt = quiet_stop _ verdict.Address refl
+quiet_given (Some r) i uls ult lrs lrt = record { still = (tt, tt) }
+quiet_given None i uls ult lrs lrt = quiet_stop _ verdict.Address refl
 
 pub quiet_load_tile : (siz width address i uls ult lrs lrt : ℕ) → Quiet Any (load_tile siz width address i uls ult lrs lrt)
 unfolding load_tile

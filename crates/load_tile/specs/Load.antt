@@ -1,8 +1,7 @@
 -- The load request: words, rows, stride, start and length of a tile's load. D is docs/SPECIFICATION.md, section 6; T is `rdp.rs` 392–415 `load_tile_typed`.
 -- Assumes nothing.
-use Rattle.std.specs.Prelude.{◌≡◌, Bool, true, false, ℕ, ◌+◌, ◌-◌, ◌*◌, ◌/◌, ◌^◌, ◌≤◌, ltb}
+use Rattle.std.specs.Prelude.{◌≡◌, Bool, true, false, Option, Some, None, ℕ, ◌+◌, ◌-◌, ◌*◌, ◌/◌, ◌^◌, ◌≤◌, ltb}
 use Rattle.load_tile.specs.declared.load.LoadRequest.{LoadRequest}
-use Rattle.load_tile.specs.declared.load.LoadRequest.TheVariants.{Load, Overflow}
 
 -- r is x, and at most m
 pub record AtMost (x m r : ℕ) : Type 0 where
@@ -33,21 +32,22 @@ offset_of siz stride uls ult = uls / 4 * 2 ^ siz / 2 + stride * (ult / 4)
 abbrev pub granted : (start length : ℕ) → Bool
 granted start length = ltb (start + length) (2 ^ 64)
 
-abbrev pub pick_request : Bool → LoadRequest → LoadRequest → LoadRequest
-pick_request true a b = a
-pick_request false a b = b
+-- the request, where it is granted
+abbrev pub pick_request : Bool → LoadRequest → Option LoadRequest
+pick_request true r = Some r
+pick_request false r = None
 
 -- D "start = address + ..", "length = (rows − 1) × stride + 8 × words"
-unfoldable pub request_of : (siz width address uls ult lrs lrt : ℕ) → LoadRequest
+unfoldable pub request_of : (siz width address uls ult lrs lrt : ℕ) → Option LoadRequest
 request_of siz width address uls ult lrs lrt =
     let words = words_of siz uls lrs in
     let rows = rows_of ult lrt in
     let stride = stride_of siz width in
     let start = address + offset_of siz stride uls ult in
     let length = (rows - 1) * stride + 8 * words in
-    pick_request (granted start length) (Load words rows stride start length) Overflow
+    pick_request (granted start length) (record { words = words; rows = rows; stride = stride; start = start; length = length })
 
 -- the rows that a request asks for
-abbrev pub rows_in_request : LoadRequest → ℕ
-rows_in_request (Load words rows stride start length) = rows
-rows_in_request Overflow = 0
+abbrev pub rows_in_request : Option LoadRequest → ℕ
+rows_in_request (Some r) = r.rows
+rows_in_request None = 0

@@ -5,9 +5,9 @@ use Rattle.std.proofs.Common.{arith}
 use Rattle.load_tile.specs.declared.load.LoadRequest.{LoadRequest}
 use Rattle.load_tile.specs.Load.{words_of, rows_of, stride_of, offset_of, granted, pick_request, request_of, rows_in_request}
 
-picked_rows : (t : Bool) (a b : LoadRequest) (m : ℕ) → rows_in_request a ≤ m → rows_in_request b ≤ m → rows_in_request (pick_request t a b) ≤ m
-picked_rows true a b m h k = h
-picked_rows false a b m h k = k
+picked_rows : (t : Bool) (r : LoadRequest) (m : ℕ) → r.rows ≤ m → rows_in_request (pick_request t r) ≤ m
+picked_rows true r m h = h
+picked_rows false r m h = omega arith
 
 -- a request asks for at most 16,384 rows
 pub rows_in : (siz width address uls ult lrs lrt : ℕ) → lrt < 65536 → rows_in_request (request_of siz width address uls ult lrs lrt) ≤ 16384
@@ -15,4 +15,4 @@ unfolding request_of
 rows_in siz width address uls ult lrs lrt h =
     let stride = stride_of siz width in
     let length = (rows_of ult lrt - 1) * stride + 8 * words_of siz uls lrs in
-    picked_rows (granted (address + offset_of siz stride uls ult) length) _ _ 16384 (omega arith) (omega arith)
+    picked_rows (granted (address + offset_of siz stride uls ult) length) _ 16384 (omega arith)

@@ -3,36 +3,26 @@ ghost use Rattle.std.specs.Prelude.{◌≡◌, ◌+◌, ◌^◌, ◌≤◌, ◌-
 ghost use Rattle.load_tile.specs.Load.{AtMost, words_in, words_of, rows_of, stride_of, offset_of, granted, request_of};
 
 #[derive(Clone, Copy)]
-pub enum LoadRequest {
-    Load {
-        words: u64,
-        rows: u64,
-        stride: u64,
-        start: u64,
-        length: u64,
-    },
-    // The start, or start plus length, is 2^64 or more.
-    Overflow,
+pub struct LoadRequest {
+    pub words: u64,
+    pub rows: u64,
+    pub stride: u64,
+    pub start: u64,
+    pub length: u64,
 }
 
 fn power(n: u8) -> u64
     requires { n ≤ 4 }
     ensures { AtMost (2 ^ n) 16 result }
 {
-    match n {
-        0 => 1,
-        1 => 2,
-        2 => 4,
-        3 => 8,
-        _ => 16,
-    }
+    1 << n
 }
 
-// The difference, and 0 where it would lie below 0.
-fn less(a: u16, b: u16) -> u64
-    ensures { result ≡ a - b }
+// Columns or rows from one bound to the other, and 0 where they are the wrong way round.
+fn span(low: u16, high: u16) -> u64
+    ensures { result ≡ high - low }
 {
-    if b < a { (a - b) as u64 } else { 0 }
+    u64::from(high.saturating_sub(low))
 }
 
 // The words of a row that has so many columns after its first. By cases, as a division by a number that is not constant would stand in every load.
@@ -52,20 +42,20 @@ fn words_per_row(siz: u8, uls: u16, lrs: u16) -> u64
     requires { siz ≤ 3 }
     ensures { AtMost (words_of siz uls lrs) 16384 result }
 {
-    words_in(siz as u64, less(lrs / 4, uls / 4))
+    words_in(u64::from(siz), span(uls / 4, lrs / 4))
 }
 
 fn row_count(ult: u16, lrt: u16) -> u64
     ensures { AtMost (rows_of ult lrt) 16384 result }
 {
-    1 + less(lrt / 4, ult / 4)
+    1 + span(ult / 4, lrt / 4)
 }
 
 fn bytes_per_row(siz: u8, width: u16) -> u64
     requires { siz ≤ 3 }
     ensures { AtMost (stride_of siz width) 524288 result }
 {
-    (width as u64 + 1) * power(siz) / 2
+    (u64::from(width) + 1) * power(siz) / 2
 }
 
 // The bytes before the tile's first texel.
@@ -73,20 +63,20 @@ fn offset(siz: u8, stride: u64, uls: u16, ult: u16) -> u64
     requires { (siz ≤ 3) × (stride ≤ 524288) }
     ensures { result ≡ offset_of siz stride uls ult }
 {
-    (uls / 4) as u64 * power(siz) / 2 + stride * ((ult / 4) as u64)
+    u64::from(uls / 4) * power(siz) / 2 + stride * u64::from(ult / 4)
 }
 
 // Whether start plus length stays within 2^64 - 1: the start is tested, then the span, as the Rust's `checked_span` and `read_bytes_exact` do.
 pub fn granted(address: u64, offset: u64, length: u64) -> bool
     ensures { result ≡ granted (address + offset) length }
 {
-    if 0xffff_ffff_ffff_ffff - address < offset {
+    let Some(start) = address.checked_add(offset) else {
         return false;
-    }
-    length <= 0xffff_ffff_ffff_ffff - (address + offset)
+    };
+    start.checked_add(length).is_some()
 }
 
-// The request of a load, from the texture image's siz, width field and address and the tile's bounds.
+// The request of a load, from the texture image's siz, width field and address and the tile's bounds; none where its bytes do not end by 2^64 - 1.
 pub fn load_request(
     siz: u8,
     width: u16,
@@ -95,7 +85,7 @@ pub fn load_request(
     ult: u16,
     lrs: u16,
     lrt: u16,
-) -> LoadRequest
+) -> Option<LoadRequest>
     requires { siz ≤ 3 }
     ensures { result ≡ request_of siz width address uls ult lrs lrt }
 {
@@ -105,14 +95,14 @@ pub fn load_request(
     let offset = offset(siz, stride, uls, ult);
     let length = (rows - 1) * stride + 8 * words;
     if granted(address, offset, length) {
-        LoadRequest::Load {
+        Some(LoadRequest {
             words,
             rows,
             stride,
             start: address + offset,
             length,
-        }
+        })
     } else {
-        LoadRequest::Overflow
+        None
     }
 }

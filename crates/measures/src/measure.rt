@@ -1,11 +1,53 @@
 // The conversions between the measures, and between a measure and whole texels, rows and lines: no other file multiplies, divides or shifts from one to another.
 // Widths, heights and image positions are never negative: a number below 0 counts as 0.
 ghost use Rattle.std.specs.Prelude.{◌≡◌, ◌≤◌, ◌<◌, ◌^◌, ◌/◌, pos};
-ghost use Rattle.measures.specs.Measure.{quarters, thirty_seconds, texels, whole_texels, whole_rows, edge, lines_at, of_position, of_lines, whole, in_quarters, in_thirty_seconds, extent, width_in_image, width_sampled, width_shown, texels_wide, words_wide, rows_high, row_part};
+ghost use Rattle.measures.specs.Measure.{quarters, thirty_seconds, texels, whole_texels, whole_rows, edge, lines_at, of_position, of_lines, whole, in_quarters, in_thirty_seconds, in_scale, extent, width_in_image, width_sampled, width_shown, texels_wide, words_wide, rows_high, row_part};
 ghost use Rattle.measures.specs.Range.{Below, Within};
 
 use crate::types::{Quarters, Scale, ThirtySeconds};
 use signed::positive;
+
+// A field's number as a measure.
+
+impl From<u16> for Quarters {
+    ghost from_gives = { λ n q. q ≡ in_quarters (pos n) };
+
+    fn from(n: u16) -> Quarters {
+        Quarters(i64::from(n))
+    }
+}
+
+impl From<i16> for Quarters {
+    ghost from_gives = { λ n q. q ≡ in_quarters n };
+
+    fn from(n: i16) -> Quarters {
+        Quarters(i64::from(n))
+    }
+}
+
+impl From<u16> for ThirtySeconds {
+    ghost from_gives = { λ n t. t ≡ in_thirty_seconds (pos n) };
+
+    fn from(n: u16) -> ThirtySeconds {
+        ThirtySeconds(i64::from(n))
+    }
+}
+
+impl From<i32> for ThirtySeconds {
+    ghost from_gives = { λ n t. t ≡ in_thirty_seconds n };
+
+    fn from(n: i32) -> ThirtySeconds {
+        ThirtySeconds(i64::from(n))
+    }
+}
+
+impl From<u16> for Scale {
+    ghost from_gives = { λ n h. h ≡ in_scale n };
+
+    fn from(n: u16) -> Scale {
+        Scale(u64::from(n))
+    }
+}
 
 pub fn quarters(q: Quarters) -> u64
     ensures { result ≡ quarters q }
@@ -53,7 +95,7 @@ pub fn texels(q: Quarters) -> u64
 pub fn strip_lines(tmem_h: u16) -> u64
     ensures { (result ≡ texels tmem_h) × (result ≤ 16383) }
 {
-    (tmem_h / 4) as u64
+    u64::from(tmem_h / 4)
 }
 
 // Cells, texels or lines as a width or a height.
@@ -77,7 +119,7 @@ pub fn edge(z: i32) -> Quarters
     requires { Below 10 z }
     ensures { result ≡ in_quarters (pos (edge z)) }
 {
-    of_texels(z as i64)
+    of_texels(i64::from(z))
 }
 
 // Whole texels of an image position, whole rows of an image height.

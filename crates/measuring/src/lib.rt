@@ -135,9 +135,9 @@ fn tell(told: &mut [u64], t: Told)
 pub fn visor_drift(object: &[u8], request: &[u64], drift: &mut [u64], told: &mut [u64]) -> u64
     ensures { drifted result drift.new told.new ≡ host_drift object.now request.now drift.old told.old }
 {
-    if request.len() != REQUEST {
+    let Ok(request) = <&[u64; REQUEST]>::try_from(request) else {
         return 1;
-    }
+    };
     if told.len() != TOLD {
         return 1;
     }

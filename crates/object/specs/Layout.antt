@@ -1,12 +1,10 @@
 -- The object's fields in its bytes: D is docs/SPECIFICATION.md, mainly section 3; M is `mem.rs` 63–135, `ObjBg` and `decode_obj_bg`; and the S2DEX2 reference's uObjBg and uObjScaleBg.
 -- Assumes nothing.
-use Rattle.std.specs.Prelude.{Bool, true, false, cond, List, ◌≡◌, ℕ, zero, suc, ◌+◌, ◌*◌, ◌^◌, ◌≤◌, ◌<◌, max, ltb, length, get_or, ℤ, pos}
+use Rattle.std.specs.Prelude.{Bool, true, false, cond, Option, Some, None, List, ◌≡◌, ℕ, zero, suc, ◌+◌, ◌*◌, ◌^◌, ◌≤◌, ◌<◌, max, ltb, length, get_or, ℤ, pos}
 use Rattle.std.specs.Int.{w16, w32}
 use Rattle.std.proofs.Common.{to_z}
 use Rattle.signed.specs.Diff.{up}
 use Rattle.object.specs.declared.types.ObjBg.{ObjBg}
-use Rattle.object.specs.declared.decode.Decoded.{Decoded}
-use Rattle.object.specs.declared.decode.Decoded.TheVariants as decoded
 
 -- D 3.1, D 3.2 and D 3.3, in the tables' order
 pub data Field : Type 0 where
@@ -141,10 +139,10 @@ decode p copy bs =
       image_y_orig = record { 0 = cond copy (pos 0) (value_of p bs image_y_orig) };
     }
 
--- the object, or that it is short
-abbrev pub decoded_by : Bool → ObjBg → Decoded
-decoded_by true bg = decoded.Short
-decoded_by false bg = decoded.Object bg
+-- the object, unless it is short
+abbrev pub decoded_by : Bool → ObjBg → Option ObjBg
+decoded_by true bg = None
+decoded_by false bg = Some bg
 
-unfoldable pub decoded_of : ℕ → (copy : Bool) → List ℕ → Decoded
+unfoldable pub decoded_of : ℕ → (copy : Bool) → List ℕ → Option ObjBg
 decoded_of p copy bs = decoded_by (ltb (length bs) (size_of p copy)) (decode p copy bs)

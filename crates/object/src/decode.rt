@@ -7,14 +7,7 @@ ghost use Rattle.object.specs.Layout.{read, size_of, decode, decoded_of};
 
 use crate::reader::field_from;
 use crate::types::ObjBg;
-use measures::{Quarters, Scale, ThirtySeconds};
-use signed::most;
-
-#[derive(Clone, Copy)]
-pub enum Decoded {
-    Object(ObjBg),
-    Short,
-}
+use measures::{Scale, ThirtySeconds};
 
 fn byte(s: &[u8], at: usize) -> u8
     requires { at + 1 ≤ length s.now }
@@ -30,51 +23,11 @@ fn half(s: &[u8], at: usize) -> u16
     field_from(s, at, 2) as u16
 }
 
-fn width(s: &[u8], at: usize) -> Quarters
-    requires { at + 2 ≤ length s.now }
-    ensures { result ≡ in_quarters (pos (read s.now at 2)) }
+fn word(s: &[u8], at: usize) -> u32
+    requires { at + 4 ≤ length s.now }
+    ensures { result ≡ read s.now at 4 }
 {
-    let n = field_from(s, at, 2);
-    Quarters(n as i64)
-}
-
-fn image_place(s: &[u8], at: usize) -> ThirtySeconds
-    requires { at + 2 ≤ length s.now }
-    ensures { result ≡ in_thirty_seconds (pos (read s.now at 2)) }
-{
-    let n = field_from(s, at, 2);
-    ThirtySeconds(n as i64)
-}
-
-// Two's complement. No cast of a number in the upper half is defined, so the power is taken away.
-
-fn signed16(n: u64) -> i64
-    requires { n < 2 ^ 16 }
-    ensures { result ≡ to_z w16 n }
-{
-    if n < 0x8000 {
-        n as i64
-    } else {
-        n as i64 - 0x1_0000
-    }
-}
-
-fn signed32(n: u64) -> i64
-    requires { n < 2 ^ 32 }
-    ensures { result ≡ to_z w32 n }
-{
-    if n < 0x8000_0000 {
-        n as i64
-    } else {
-        n as i64 - 0x1_0000_0000
-    }
-}
-
-fn frame_place(s: &[u8], at: usize) -> Quarters
-    requires { at + 2 ≤ length s.now }
-    ensures { result ≡ in_quarters (to_z w16 (read s.now at 2)) }
-{
-    Quarters(signed16(field_from(s, at, 2)))
+    field_from(s, at, 4) as u32
 }
 
 // The fields of one kind are 0 in the other.
@@ -94,7 +47,7 @@ fn scale(copy: bool, s: &[u8], at: usize) -> Scale
     if copy {
         Scale(0)
     } else {
-        Scale(most(1, field_from(s, at, 2)))
+        half(s, at).max(1).into()
     }
 }
 
@@ -105,11 +58,12 @@ fn origin(copy: bool, s: &[u8], at: usize) -> ThirtySeconds
     if copy {
         ThirtySeconds(0)
     } else {
-        ThirtySeconds(signed32(field_from(s, at, 4)))
+        word(s, at).cast_signed().into()
     }
 }
 
 // What depends on the kind comes first: the other reads then stand in one block, where the compiler makes one load of two bytes.
+#[tactic(auto, unfolding(crate::specs::Layout::decode, crate::specs::Layout::value_of, crate::specs::Layout::layout))]
 fn fields(s: &[u8], pointer: usize, copy: bool) -> ObjBg
     requires pointer_bound { pointer ≤ 8 }
     requires copy_in_bounds { size_of pointer copy ≤ length s.now }
@@ -125,14 +79,14 @@ fn fields(s: &[u8], pointer: usize, copy: bool) -> ObjBg
         scale_w: scale(copy, s, 24 + pointer),
         scale_h: scale(copy, s, 26 + pointer),
         image_y_orig: origin(copy, s, 28 + pointer),
-        image_x: image_place(s, 0),
-        image_w: width(s, 2),
-        frame_x: frame_place(s, 4),
-        frame_w: width(s, 6),
-        image_y: image_place(s, 8),
-        image_h: width(s, 10),
-        frame_y: frame_place(s, 12),
-        frame_h: width(s, 14),
+        image_x: half(s, 0).into(),
+        image_w: half(s, 2).into(),
+        frame_x: half(s, 4).cast_signed().into(),
+        frame_w: half(s, 6).into(),
+        image_y: half(s, 8).into(),
+        image_h: half(s, 10).into(),
+        frame_y: half(s, 12).cast_signed().into(),
+        frame_h: half(s, 14).into(),
         image_ptr: field_from(s, 16, pointer),
         image_load: half(s, 16 + pointer),
         image_fmt: byte(s, 18 + pointer),
@@ -149,12 +103,14 @@ fn size(pointer: usize, copy: bool) -> usize
     if copy { 36 + pointer } else { 32 + pointer }
 }
 
-pub fn decode_obj_bg(object: &[u8], pointer: usize, copy: bool) -> Decoded
+// None where the bytes are fewer than the kind's.
+#[tactic(auto, unfolding(crate::specs::Layout::decoded_of))]
+pub fn decode_obj_bg(object: &[u8], pointer: usize, copy: bool) -> Option<ObjBg>
     requires { pointer ≤ 8 }
     ensures { result ≡ decoded_of pointer copy object.now }
 {
     if object.len() < size(pointer, copy) {
-        return Decoded::Short;
+        return None;
     }
-    Decoded::Object(fields(object, pointer, copy))
+    Some(fields(object, pointer, copy))
 }

@@ -5,6 +5,6 @@ mod decode;
 mod reader;
 mod types;
 
-pub use decode::{Decoded, decode_obj_bg};
+pub use decode::decode_obj_bg;
 pub use reader::{Reader, field_from};
-pub use types::{Checked, ObjBg, Scissor, Verdict};
+pub use types::{Background, ObjBg, Scissor, Verdict};

@@ -8,22 +8,14 @@ pub struct Reader<'a> {
     pub at: usize,
 }
 
-fn wide(b: u8) -> u64
-    ensures { (result ≡ b) × (result < 256) }
-{
-    b as u64
-}
-
 // The number in `n` bytes from a place.
 fn big_endian(s: &[u8], at: usize, n: usize) -> u64
     requires { Held s.now at n }
     ensures { ReadIs s.now at n result }
 {
     let mut number = 0;
-    let mut i = 0;
-    while i < n {
-        number = number * 256 + wide(s[at + i]);
-        i += 1;
+    for byte in &s[at..at + n] {
+        number = number * 256 + u64::from(*byte);
     }
     number
 }

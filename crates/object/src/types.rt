@@ -38,26 +38,25 @@ pub struct Scissor {
     pub lry: i32,
 }
 
-// How a plan ended; SPECIFICATION 4.1 numbers them from 0 in this order.
+// How a plan ended, by the numbers of SPECIFICATION 4.1.
 #[derive(Clone, Copy)]
 pub enum Verdict {
-    Finished,
-    Opcode,
-    Short,
-    Scissor,
-    Object,
-    Copy,
-    Slices,
-    TooBig,
-    Piece,
-    Address,
-    Full,
+    Finished = 0,
+    Opcode = 1,
+    Short = 2,
+    Scissor = 3,
+    Object = 4,
+    Copy = 5,
+    Slices = 6,
+    TooBig = 7,
+    Piece = 8,
+    Address = 9,
+    Full = 10,
 }
 
-// What the checks of a request give: a background of one kind, or the first verdict that applies.
+// What the checks of a request give, where no verdict applies: a background of one kind.
 #[derive(Clone, Copy)]
-pub enum Checked {
+pub enum Background {
     Copy(ObjBg),
     Scaled(ObjBg),
-    Refused(Verdict),
 }

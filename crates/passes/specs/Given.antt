@@ -1,6 +1,6 @@
 -- What each stage gives: the entry is the first of what is to come, and what is reached is the rest.
 -- Assumes nothing.
-use Rattle.std.specs.Prelude.{◌≡◌, refl, [], ◌∷◌, ℕ, suc, ◌+◌, ◌-◌, ◌*◌, ◌≤◌, ◌<◌, Bool, true, false, cond, eqb, ℤ, negsuc, ◌-ℤ◌, ◌*ℤ◌, ◌≤ℤ◌}
+use Rattle.std.specs.Prelude.{◌≡◌, refl, [], ◌∷◌, ℕ, suc, ◌+◌, ◌-◌, ◌*◌, ◌≤◌, ◌<◌, Bool, true, false, cond, eqb, ℤ, negsuc, ◌-ℤ◌, ◌*ℤ◌, ◌≤ℤ◌, Option, Some, None}
 use Rattle.std.proofs.Common.{sym, subst, ◌∙◌, lit<, lit≤}
 use Rattle.std.proofs.Math.Path.{ap}
 use native.Mathlib.Omega.{arith}
@@ -23,7 +23,6 @@ use Rattle.plan.specs.Load.{load_out, load_tile, source_address}
 use Rattle.plan.specs.Next.{cons, ended}
 use Rattle.plan.specs.Sound.{SoundScaled, SoundFirst, entry_rows, entry_line, EntryIn, Narrow, Names}
 use Rattle.load_tile.specs.declared.load.LoadRequest.{LoadRequest}
-use Rattle.load_tile.specs.declared.load.LoadRequest.TheVariants as request
 use Rattle.load_tile.specs.Load.{request_of, rows_in_request}
 use Rattle.load_tile.specs.Rows.{rows_in}
 use Rattle.plan.specs.Scaled.{size_of, field_of, lrs_of, lrt_of, tile7, load_part, load_of_rows, rect_of, advance, draw_of, left_after, after_draw, first_pass, passes, scaled_plan}
@@ -92,25 +91,25 @@ FirstNames (go [] u) = Unit {0}
 FirstNames (go (e ∷ es) u) = Names e
 FirstNames (stop es l v) = Unit {0}
 
-asked_rows : (q : LoadRequest) (i uls ult lrs lrt : ℕ) → first_rows (load_out q i uls ult lrs lrt) ≡ rows_in_request q
+asked_rows : (q : Option LoadRequest) (i uls ult lrs lrt : ℕ) → first_rows (load_out q i uls ult lrs lrt) ≡ rows_in_request q
 unfolding load_out
-asked_rows (request.Load words rows stride start length) i uls ult lrs lrt = refl
-asked_rows request.Overflow i uls ult lrs lrt = refl
+asked_rows (Some r) i uls ult lrs lrt = refl
+asked_rows None i uls ult lrs lrt = refl
 
-asked_line : (q : LoadRequest) (i uls ult lrs lrt : ℕ) → first_line (load_out q i uls ult lrs lrt) ≡ 0
+asked_line : (q : Option LoadRequest) (i uls ult lrs lrt : ℕ) → first_line (load_out q i uls ult lrs lrt) ≡ 0
 unfolding load_out
-asked_line (request.Load words rows stride start length) i uls ult lrs lrt = refl
-asked_line request.Overflow i uls ult lrs lrt = refl
+asked_line (Some r) i uls ult lrs lrt = refl
+asked_line None i uls ult lrs lrt = refl
 
-asked_narrow : (q : LoadRequest) (i lrs lrt : ℕ) → lrs ≤ 65535 → lrt ≤ 65535 → FirstNarrow (load_out q i 0 0 lrs lrt)
+asked_narrow : (q : Option LoadRequest) (i lrs lrt : ℕ) → lrs ≤ 65535 → lrt ≤ 65535 → FirstNarrow (load_out q i 0 0 lrs lrt)
 unfolding load_out
-asked_narrow (request.Load words rows stride start length) i lrs lrt a b = (lit≤ tt, (lit≤ tt, (a, b)))
-asked_narrow request.Overflow i lrs lrt a b = (lit≤ tt, (lit≤ tt, (a, b)))
+asked_narrow (Some r) i lrs lrt a b = (lit≤ tt, (lit≤ tt, (a, b)))
+asked_narrow None i lrs lrt a b = (lit≤ tt, (lit≤ tt, (a, b)))
 
-asked_names : (q : LoadRequest) (lrs lrt : ℕ) → FirstNames (load_out q 7 0 0 lrs lrt)
+asked_names : (q : Option LoadRequest) (lrs lrt : ℕ) → FirstNames (load_out q 7 0 0 lrs lrt)
 unfolding load_out
-asked_names (request.Load words rows stride start length) lrs lrt = refl
-asked_names request.Overflow lrs lrt = tt
+asked_names (Some r) lrs lrt = refl
+asked_names None lrs lrt = tt
 
 lower_lt : (z : Scaled) (rows : ℤ) → lrt_of z rows < 65536
 lower_lt z rows = by (eqb z.siz 3)

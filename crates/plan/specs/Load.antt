@@ -1,20 +1,19 @@
 -- Loads and address sums as parts of a plan. D is docs/SPECIFICATION.md.
 -- Assumes nothing.
-use Rattle.std.specs.Prelude.{true, false, [], ◌∷◌, ℕ, ◌^◌, ltb, ℤ, pos, ◌+ℤ◌}
+use Rattle.std.specs.Prelude.{true, false, [], ◌∷◌, ℕ, ◌^◌, ltb, ℤ, pos, ◌+ℤ◌, Option, Some, None}
 use Rattle.std.specs.Int.Signed.{lt_z}
 use Rattle.signed.specs.Diff.{up}
 use Rattle.object.specs.declared.types.Verdict.TheVariants as verdict
 use Rattle.load_tile.specs.declared.load.LoadRequest.{LoadRequest}
-use Rattle.load_tile.specs.declared.load.LoadRequest.TheVariants as request
 use Rattle.load_tile.specs.Load.{request_of}
 use Rattle.plan.specs.declared.types.Entry.TheVariants.{Size, Load}
 use Rattle.plan.specs.Out.{Out}
 use Rattle.plan.specs.Out.Out.{go, stop}
 
 -- the entry of a load that was granted; else the verdict, and the size that the load has set
-unfoldable pub load_out : LoadRequest → (index uls ult lrs lrt : ℕ) → Out (Unit {0})
-load_out (request.Load words rows stride start length) i uls ult lrs lrt = go (Load i uls ult lrs lrt words rows stride start length ∷ []) tt
-load_out request.Overflow i uls ult lrs lrt = stop [] (Size i uls ult lrs lrt ∷ []) verdict.Address
+unfoldable pub load_out : Option LoadRequest → (index uls ult lrs lrt : ℕ) → Out (Unit {0})
+load_out (Some r) i uls ult lrs lrt = go (Load i uls ult lrs lrt r.words r.rows r.stride r.start r.length ∷ []) tt
+load_out None i uls ult lrs lrt = stop [] (Size i uls ult lrs lrt ∷ []) verdict.Address
 
 -- T 392–415 `load_tile_typed` with the texture image's siz, width field and address; D "The size is set first"
 unfoldable pub load_tile : (siz width address index uls ult lrs lrt : ℕ) → Out (Unit {0})

@@ -1,9 +1,9 @@
 -- The plan of a request, with the verdicts in the order of D 4.6. D is docs/SPECIFICATION.md.
 -- Assumes nothing.
-use Rattle.std.specs.Prelude.{true, false, ℕ}
+use Rattle.std.specs.Prelude.{true, false, ℕ, Ok, Err}
 use Rattle.object.specs.declared.types.ObjBg.{ObjBg}
-use Rattle.object.specs.declared.types.Checked.{Checked}
-use Rattle.object.specs.declared.types.Checked.TheVariants as checked
+use Rattle.checks.specs.Check.{Checked}
+use Rattle.object.specs.declared.types.Background.TheVariants as background
 use Rattle.object.specs.declared.types.Verdict.TheVariants as verdict
 use Rattle.checks.specs.Check.{checked_of}
 use Rattle.plan.specs.Request.{Request}
@@ -25,9 +25,9 @@ scaled_out bg q =
 
 -- D "1 to 5 are tried in this order"
 unfoldable pub checked_out : Checked → Request → Out (Unit {0})
-checked_out (checked.Refused v) q = refuse v
-checked_out (checked.Copy bg) q = copy_out bg q
-checked_out (checked.Scaled bg) q = scaled_out bg q
+checked_out (Err v) q = refuse v
+checked_out (Ok (background.Copy bg)) q = copy_out bg q
+checked_out (Ok (background.Scaled bg)) q = scaled_out bg q
 
 -- the plan, for pointers of p bytes
 unfoldable pub plan_with : ℕ → Request → Plan

@@ -10,7 +10,7 @@ ghost use Rattle.replay.specs.Steps.{replayed_of};
 
 use crate::record::{Replayed, run_and_step};
 use object::{Scissor, field_from};
-use request::{Case, Request};
+use request::Request;
 
 // A bank's words, eight bytes each.
 pub(crate) fn bank_of(bytes: &[u8]) -> [u64; 136]
@@ -54,7 +54,7 @@ fn asked(bytes: &[u8]) -> Request
     requires { length bytes.now ≡ 64 }
     ensures { (n : ℕ) → with_bytes (take n bytes.now) result ≡ request_at n bytes.now }
 {
-    let Case::Request(q) = request::from_bytes(bytes) else {
+    let Some(q) = request::from_bytes(bytes) else {
         let scissor = Scissor {
             ulx: 0,
             uly: 0,

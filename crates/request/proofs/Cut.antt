@@ -1,5 +1,6 @@
 -- A number that no field of a request holds is refused as it stands and as it is cut, so both requests have one plan.
 -- Assumes nothing.
+use Rattle.std.specs.Prelude.{Err}
 use mathlib.Core.Path.{◌≡◌, refl, sym, ap, ◌∙◌}
 use mathlib.Core.Bool.{Bool, true, false, cond, true≢false, or-true}
 use mathlib.Core.List.{List}
@@ -14,7 +15,7 @@ use mir.Val.{sel}
 use Rattle.signed.specs.Bound.{or_false}
 use Rattle.object.specs.declared.types.Scissor.{Scissor}
 use Rattle.object.specs.declared.types.Verdict.TheVariants as verdict
-use Rattle.object.specs.declared.types.Checked.TheVariants as checked
+use Rattle.object.specs.declared.types.Background.TheVariants as background
 use Rattle.checks.specs.Check.{opcode_bad, edge_bad, scissor_bad, refused_by, short, checked_of}
 use Rattle.plan.specs.Request as plan
 use Rattle.plan.specs.Out.{plan_out, refuse}
@@ -62,8 +63,8 @@ module _ (bytes : List ℕ) (opcode : ℕ) (mode address : ℕ) where
   abbrev asks : Scissor → plan.Request
   asks s = record { bytes = bytes; opcode = opcode; scissor = s; mode = mode; address = address }
 
-  refused : (a b : Bool) (s s' : Scissor) → checked_out (refused_by a verdict.Opcode (refused_by b verdict.Short (checked.Refused verdict.Scissor))) (asks s)
-      ≡ checked_out (refused_by a verdict.Opcode (refused_by b verdict.Short (checked.Refused verdict.Scissor))) (asks s')
+  refused : (a b : Bool) (s s' : Scissor) → checked_out (refused_by a verdict.Opcode (refused_by b verdict.Short (Err verdict.Scissor))) (asks s)
+      ≡ checked_out (refused_by a verdict.Opcode (refused_by b verdict.Short (Err verdict.Scissor))) (asks s')
   unfolding checked_out
   refused true b s s' = refl
   refused false true s s' = refl

@@ -1,11 +1,11 @@
 -- A host's request: seven words, and what the code keeps of them.
 -- Assumes nothing.
-use Rattle.std.specs.Prelude.{◌≡◌, ◌⊎◌, cond, List, ℕ, ◌%◌, ◌^◌, ltb, get_or, ℤ, pos, negsuc}
+use Rattle.std.specs.Prelude.{◌≡◌, ◌⊎◌, cond, List, ℕ, ◌%◌, ◌^◌, ltb, get_or, ℤ, pos, negsuc, Err}
 use Rattle.std.specs.Int.{w64}
 use Rattle.std.proofs.Common.{to_z}
 use Rattle.object.specs.declared.types.Scissor.{Scissor}
 use Rattle.object.specs.declared.types.Verdict.{Verdict}
-use Rattle.object.specs.declared.types.Checked.TheVariants as checked
+use Rattle.object.specs.declared.types.Background.TheVariants as background
 use Rattle.checks.specs.Check.{checked_of}
 use Rattle.plan.specs.Request as plan
 use Rattle.plan.specs.Whole.{plan_of}
@@ -42,7 +42,7 @@ request_kept ws = record { opcode = opcode_kept (get_or ws 0 0); scissor = sciss
 -- the checks refuse a request
 pub record RefusedAt (q : plan.Request) : Type 0 where
   pub verdict : Verdict
-  pub is : checked_of 4 q.bytes q.opcode q.scissor ≡ checked.Refused verdict
+  pub is : checked_of 4 q.bytes q.opcode q.scissor ≡ Err verdict
 
 -- a request as its words stand, or both that and what is kept of it are refused
 abbrev pub Alike : plan.Request → plan.Request → Type 0

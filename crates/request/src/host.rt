@@ -9,7 +9,7 @@ use object::Scissor;
 fn opcode(n: u64) -> u8
     ensures { result ≡ opcode_kept n }
 {
-    if n < 256 { n as u8 } else { 0 }
+    u8::try_from(n).unwrap_or(0)
 }
 
 // No edge lies above 1023, and −1 is none.
@@ -26,8 +26,7 @@ fn mode(n: u64) -> u32
 }
 
 // Numbers that this cuts are refused either way, so the plan is that of the words as they stand.
-pub fn from_words(words: &[u64]) -> Request
-    requires { length words.now ≡ 7 }
+pub fn from_words(words: &[u64; 7]) -> Request
     ensures { KeptIs words.now result }
 {
     let scissor = Scissor {

@@ -7,4 +7,4 @@ mod types;
 
 pub use host::from_words;
 pub use stored::from_bytes;
-pub use types::{Case, Request};
+pub use types::Request;

@@ -3,7 +3,7 @@ ghost use Rattle.std.specs.Prelude.{◌≡◌, ◌+◌, ◌≤◌, pos, length};
 ghost use Rattle.object.specs.Layout.{read};
 ghost use Rattle.request.specs.Stored.{asked_at, case_of};
 
-use crate::types::{Case, Request};
+use crate::types::Request;
 use object::{Scissor, field_from};
 
 fn edge(s: &[u8], at: usize) -> i32
@@ -46,13 +46,13 @@ fn asked(s: &[u8]) -> Request
     }
 }
 
-// Any bytes; those beyond the 61st are not read.
-pub fn from_bytes(s: &[u8]) -> Case
+// Any bytes; those beyond the 61st are not read, and fewer are no case.
+#[tactic(auto, unfolding(crate::specs::Stored::case_of))]
+pub fn from_bytes(s: &[u8]) -> Option<Request>
     ensures { result ≡ case_of s.now }
 {
     if s.len() < 61 {
-        Case::Short
-    } else {
-        Case::Request(asked(s))
+        return None;
     }
+    Some(asked(s))
 }

@@ -8,10 +8,3 @@ pub struct Request {
     pub mode: u32,
     pub address: u64,
 }
-
-// What the bytes of a case ask for; or that they are fewer than a case's 61.
-#[derive(Clone, Copy)]
-pub enum Case {
-    Request(Request),
-    Short,
-}

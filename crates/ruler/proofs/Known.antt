@@ -1,5 +1,6 @@
 -- What measures a request's plan: its ranges, demand 3's numbers, and the plans that have nothing to measure.
 -- Assumes nothing.
+use Rattle.std.specs.Prelude.{Ok, Err}
 use Rattle.std.proofs.Common.{◌≡◌, refl, sym, ap, subst, ◌∙◌, Bool, true, false, cond, not, ◌&&◌, List, [], ℕ, ◌+◌, ◌-◌, ◌*◌, ◌/◌, ◌^◌, ◌≤◌, ◌<◌, arith, mul-le-mul, mul-le-mul_right, le-div_iff_mul-le, eqb, ℤ, pos, neg_ℤ, ◌-ℤ◌, ◌*ℤ◌, ◌≤ℤ◌, SFits}
 use Rattle.std.specs.Int.{w64}
 use borrow.Author.Tests.{eqb-true}
@@ -9,7 +10,7 @@ use Rattle.measures.specs.Measure.{quarters, in_image, whole_texels, lines_at, o
 use Rattle.measures.specs.Range.{Below, Within, counted}
 use Rattle.object.specs.declared.types.ObjBg.{ObjBg}
 use Rattle.object.specs.declared.types.Scissor.{Scissor}
-use Rattle.object.specs.declared.types.Checked.TheVariants as checked
+use Rattle.object.specs.declared.types.Background.TheVariants as background
 use Rattle.object.specs.declared.types.Verdict.{Verdict}
 use Rattle.object.specs.declared.types.Verdict.TheVariants as verdict
 use Rattle.object.specs.Layout.{decode}
@@ -157,43 +158,43 @@ drifts_none q e = rw e (by (eqb q.opcode 9))
     by true = refl
     by false = refl
 
-pub nothing_refused : (q : Request) (v : Verdict) → checked_of 4 q.bytes q.opcode q.scissor ≡ checked.Refused v → FoundIs q found.Nothing
+pub nothing_refused : (q : Request) (v : Verdict) → checked_of 4 q.bytes q.opcode q.scissor ≡ Err v → FoundIs q found.Nothing
 unfolding set_up plan_of plan_with checked_out
 nothing_refused q v e = (rw e, drifts_none q (rw e))
 
-no_copy : (a b c : Bool) (bg bg' : ObjBg) → refused_by a verdict.Short (refused_by b verdict.Scissor (refused_by c verdict.Object (checked.Scaled bg))) ≡ checked.Copy bg' → ⊥
+no_copy : (a b c : Bool) (bg bg' : ObjBg) → refused_by a verdict.Short (refused_by b verdict.Scissor (refused_by c verdict.Object (Ok (background.Scaled bg)))) ≡ Ok (background.Copy bg)' → ⊥
 no_copy true b c bg bg' e = let z : ◌≡◌ {A = ℕ} 0 1 = cc in omega arith
 no_copy false true c bg bg' e = let z : ◌≡◌ {A = ℕ} 0 1 = cc in omega arith
 no_copy false false true bg bg' e = let z : ◌≡◌ {A = ℕ} 0 1 = cc in omega arith
 no_copy false false false bg bg' e = let z : ◌≡◌ {A = ℕ} 0 1 = cc in omega arith
 
-no_scaled : (a b c d : Bool) (bg bg' : ObjBg) → refused_by a verdict.Short (refused_by b verdict.Scissor (refused_by c verdict.Object (refused_by d verdict.Copy (checked.Copy bg)))) ≡ checked.Scaled bg' → ⊥
+no_scaled : (a b c d : Bool) (bg bg' : ObjBg) → refused_by a verdict.Short (refused_by b verdict.Scissor (refused_by c verdict.Object (refused_by d verdict.Copy (Ok (background.Copy bg))))) ≡ Ok (background.Scaled bg)' → ⊥
 no_scaled true b c d bg bg' e = let z : ◌≡◌ {A = ℕ} 0 1 = cc in omega arith
 no_scaled false true c d bg bg' e = let z : ◌≡◌ {A = ℕ} 0 1 = cc in omega arith
 no_scaled false false true d bg bg' e = let z : ◌≡◌ {A = ℕ} 0 1 = cc in omega arith
 no_scaled false false false true bg bg' e = let z : ◌≡◌ {A = ℕ} 0 1 = cc in omega arith
 no_scaled false false false false bg bg' e = let z : ◌≡◌ {A = ℕ} 0 1 = cc in omega arith
 
-nine : (bs : List ℕ) (s : Scissor) (bg : ObjBg) → checked_of 4 bs 9 s ≡ checked.Copy bg → ⊥
+nine : (bs : List ℕ) (s : Scissor) (bg : ObjBg) → checked_of 4 bs 9 s ≡ Ok (background.Copy bg) → ⊥
 unfolding checked_of object_of
 nine bs s bg e = no_copy (short 4 9 bs) (scissor_bad s) (any (object_faults (decode 4 false bs))) (decode 4 false bs) bg e
 
-copied_opcode : (bs : List ℕ) (opcode : ℕ) (s : Scissor) (bg : ObjBg) → checked_of 4 bs opcode s ≡ checked.Copy bg → eqb opcode 9 ≡ false
+copied_opcode : (bs : List ℕ) (opcode : ℕ) (s : Scissor) (bg : ObjBg) → checked_of 4 bs opcode s ≡ Ok (background.Copy bg) → eqb opcode 9 ≡ false
 copied_opcode bs opcode s bg e = by (eqb opcode 9) refl
   where
     by : (t : Bool) → eqb opcode 9 ≡ t → eqb opcode 9 ≡ false
     by false t = t
     by true t = absurd (nine bs s bg (ap (λ (n : ℕ). checked_of 4 bs n s) (sym (eqb-true opcode 9 t)) ∙ e))
 
-ten : (bs : List ℕ) (s : Scissor) (bg : ObjBg) → checked_of 4 bs 10 s ≡ checked.Scaled bg → ⊥
+ten : (bs : List ℕ) (s : Scissor) (bg : ObjBg) → checked_of 4 bs 10 s ≡ Ok (background.Scaled bg) → ⊥
 unfolding checked_of object_of
 ten bs s bg e = no_scaled (short 4 10 bs) (scissor_bad s) (any (object_faults (decode 4 true bs))) (any (copy_faults (decode 4 true bs))) (decode 4 true bs) bg e
 
-other : (bs : List ℕ) (opcode : ℕ) (s : Scissor) → eqb opcode 9 ≡ false → eqb opcode 10 ≡ false → checked_of 4 bs opcode s ≡ checked.Refused verdict.Opcode
+other : (bs : List ℕ) (opcode : ℕ) (s : Scissor) → eqb opcode 9 ≡ false → eqb opcode 10 ≡ false → checked_of 4 bs opcode s ≡ Err verdict.Opcode
 unfolding checked_of
 other bs opcode s a b = rw (a, b)
 
-scaled_opcode : (bs : List ℕ) (opcode : ℕ) (s : Scissor) (bg : ObjBg) → checked_of 4 bs opcode s ≡ checked.Scaled bg → opcode ≡ 9
+scaled_opcode : (bs : List ℕ) (opcode : ℕ) (s : Scissor) (bg : ObjBg) → checked_of 4 bs opcode s ≡ Ok (background.Scaled bg) → opcode ≡ 9
 scaled_opcode bs opcode s bg e = by (eqb opcode 9) (eqb opcode 10) refl refl
   where
     by : (t u : Bool) → eqb opcode 9 ≡ t → eqb opcode 10 ≡ u → opcode ≡ 9
@@ -201,7 +202,7 @@ scaled_opcode bs opcode s bg e = by (eqb opcode 9) (eqb opcode 10) refl refl
     by false true a b = absurd (ten bs s bg (ap (λ (n : ℕ). checked_of 4 bs n s) (sym (eqb-true opcode 10 b)) ∙ e))
     by false false a b = let z : ◌≡◌ {A = ℕ} 0 1 = cc (other bs opcode s a b) in absurd (omega arith)
 
-pub nothing_copied : (q : Request) (bg : ObjBg) → checked_of 4 q.bytes q.opcode q.scissor ≡ checked.Copy bg → FoundIs q found.Nothing
+pub nothing_copied : (q : Request) (bg : ObjBg) → checked_of 4 q.bytes q.opcode q.scissor ≡ Ok (background.Copy bg) → FoundIs q found.Nothing
 unfolding set_up drifts_of
 nothing_copied q bg e = (rw e, rw (copied_opcode q.bytes q.opcode q.scissor bg e))
 
@@ -267,7 +268,7 @@ module _ {bg : ObjBg} {s : Scissor} {mode address : ℕ} {c : Clip} {i : Start} 
         sound = rw e (ruler_sound bg c i z f h.usable (h.clip.filled h.filled) h.start.inside (h.scaled.sound h.good) h.first.sound k.0 k.1 (rw (sym h.scaled.is) at (strip_rows bg mode address c i).1));
       }
 
-module _ (q : Request) (bg : ObjBg) (e : checked_of 4 q.bytes q.opcode q.scissor ≡ checked.Scaled bg) where
+module _ (q : Request) (bg : ObjBg) (e : checked_of 4 q.bytes q.opcode q.scissor ≡ Ok (background.Scaled bg)) where
   found_nothing : scaled_set bg q.scissor q.mode q.address ≡ false → FoundIs q found.Nothing
   unfolding set_up plan_of plan_with checked_out
   found_nothing n = (rw e n, drifts_none q (rw e (no_entries bg q n)))

@@ -1,6 +1,6 @@
 -- Demand 3's numbers of each rectangle of a scaled plan, and what the code has of them between two rectangles. D is docs/SPECIFICATION.md, section 11.
 -- Assumes nothing.
-use Rattle.std.specs.Prelude.{◌≡◌, Bool, true, false, cond, not, ◌&&◌, List, [], ◌∷◌, ℕ, ◌+◌, ◌*◌, ◌-◌, ◌/◌, ◌%◌, ◌^◌, ◌≤◌, eqb, ℤ, pos, neg_ℤ, ◌+ℤ◌, ◌-ℤ◌, ◌*ℤ◌, ◌≤ℤ◌}
+use Rattle.std.specs.Prelude.{◌≡◌, Bool, true, false, cond, not, ◌&&◌, List, [], ◌∷◌, ℕ, ◌+◌, ◌*◌, ◌-◌, ◌/◌, ◌%◌, ◌^◌, ◌≤◌, eqb, ℤ, pos, neg_ℤ, ◌+ℤ◌, ◌-ℤ◌, ◌*ℤ◌, ◌≤ℤ◌, Ok, Err}
 use Rattle.std.specs.Int.Signed.{le_z}
 use Rattle.std.specs.Int.{w64}
 use Rattle.std.proofs.Common.{SFits}
@@ -10,8 +10,8 @@ use Rattle.measures.specs.Measure.{quarters, thirty_seconds, texels, sampled_by}
 use Rattle.measures.specs.Range.{Below, Within}
 use Rattle.object.specs.declared.types.ObjBg.{ObjBg}
 use Rattle.object.specs.declared.types.Scissor.{Scissor}
-use Rattle.object.specs.declared.types.Checked.{Checked}
-use Rattle.object.specs.declared.types.Checked.TheVariants as checked
+use Rattle.checks.specs.Check.{Checked}
+use Rattle.object.specs.declared.types.Background.TheVariants as background
 use Rattle.checks.specs.Check.{checked_of}
 use Rattle.plan.specs.declared.types.Entry.{Entry}
 use Rattle.plan.specs.declared.types.Entry.TheVariants as entry
@@ -47,9 +47,9 @@ unfoldable pub scaled_set : ObjBg → Scissor → (mode address : ℕ) → Bool
 scaled_set bg s mode address = not (scaled_empty (clip_of bg s)) && not (slices_bad (scaled_of bg mode address (clip_of bg s) (start_of bg (clip_of bg s))))
 
 abbrev pub checked_set : Checked → Request → Bool
-checked_set (checked.Scaled bg) q = scaled_set bg q.scissor q.mode q.address
-checked_set (checked.Copy bg) q = false
-checked_set (checked.Refused v) q = false
+checked_set (Ok (background.Scaled bg)) q = scaled_set bg q.scissor q.mode q.address
+checked_set (Ok (background.Copy bg)) q = false
+checked_set (Err v) q = false
 
 -- whether a scaled plan is set up: the checks pass it, its frame is not empty, and it has strips
 unfoldable pub set_up : Request → Bool

@@ -3,7 +3,7 @@ ghost use Rattle.show.specs.Case.{CaseIs};
 
 use object::Scissor;
 use planner::Planner;
-use request::{Case, from_bytes};
+use request::from_bytes;
 use starts::fresh;
 
 const COPY: u8 = 10;
@@ -13,8 +13,8 @@ pub fn case_planner(bytes: &[u8]) -> Planner
     ensures { CaseIs bytes.now result }
 {
     match from_bytes(bytes) {
-        Case::Request(q) => fresh(&bytes[..40], q.opcode, q.scissor, q.mode, q.address),
-        Case::Short => {
+        Some(q) => fresh(&bytes[..40], q.opcode, q.scissor, q.mode, q.address),
+        None => {
             let nothing = Scissor {
                 ulx: 0,
                 uly: 0,

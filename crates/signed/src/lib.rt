@@ -31,10 +31,10 @@ pub fn minus(a: u64, b: u64) -> u64
 pub fn positive(z: i64) -> u64
     ensures { result ≡ up z }
 {
-    if z < 0 { 0 } else { z as u64 }
+    z.max(0) as u64
 }
 
-// The quotient rounded down, by a division that rounds toward zero.
+// The quotient rounded down, by a division that rounds toward zero: the customer names this form, so the library's `div_euclid` does not stand here.
 pub fn floor_div(a: i64, b: u64) -> i64
     requires pos_bound { neg_ℤ (pos (2 ^ 62)) ≤ℤ a }
     requires le_b { (1 ≤ b) × (b ≤ 2 ^ 62) }
@@ -49,9 +49,7 @@ pub fn rem_euclid(a: i64, b: u64) -> u64
     requires { (1 ≤ b) × (b < 2 ^ 63) }
     ensures { result ≡ modulo a b }
 {
-    let d = b as i64;
-    let r = a % d;
-    if r < 0 { (r + d) as u64 } else { r as u64 }
+    a.rem_euclid(b as i64) as u64
 }
 
 // The same for numbers that are mostly in range already: a division takes longer than the rest of a step.
@@ -80,21 +78,10 @@ pub fn low16(x: i64) -> u16
     (x & 0xffff) as u16
 }
 
-// No cast of a number from 2^15 on is defined, so 2^16 is taken away first.
-fn to_i16(v: u16) -> i16
-    ensures { result ≡ to_z w16 v }
-{
-    if v < 32768 {
-        v as i16
-    } else {
-        (v as i32 - 65536) as i16
-    }
-}
-
 pub fn signed16(x: i64) -> i16
     ensures { result ≡ i16 x }
 {
-    to_i16(low16(x))
+    low16(x).cast_signed()
 }
 
 pub fn wide(x: i16) -> i64
@@ -106,10 +93,5 @@ pub fn wide(x: i16) -> i64
 pub fn word_of(x: i64) -> u64
     ensures { result ≡ word x }
 {
-    if x < 0 {
-        let m = (-(x + 1)) as u64;
-        0xffff_ffff_ffff_ffff - m
-    } else {
-        x as u64
-    }
+    x.cast_unsigned()
 }

@@ -1,6 +1,6 @@
 -- The numbers of a plan's entries are small, and its entries few: what a host's column, or its own field, may count on. The ranges are those of docs/SPECIFICATION.md, sections 9 and 10.
 -- Assumes nothing.
-use Rattle.std.specs.Prelude.{◌≡◌, refl, Bool, true, false, List, [], ◌∷◌, ◌++◌, ℕ, zero, suc, ◌+◌, ◌-◌, ◌*◌, ◌^◌, ◌≤◌, ◌<◌, ltb, ℤ, pos, negsuc, neg_ℤ, ◌+ℤ◌, length, ◌≤ℤ◌}
+use Rattle.std.specs.Prelude.{◌≡◌, refl, Bool, true, false, List, [], ◌∷◌, ◌++◌, ℕ, zero, suc, ◌+◌, ◌-◌, ◌*◌, ◌^◌, ◌≤◌, ◌<◌, ltb, ℤ, pos, negsuc, neg_ℤ, ◌+ℤ◌, length, ◌≤ℤ◌, None}
 use Rattle.std.proofs.Common.{arith, length-append, SFits, ltb-true}
 use Rattle.std.specs.Int.Signed.{lt_z}
 use Rattle.std.specs.Int.{w16}
@@ -10,7 +10,6 @@ use Rattle.signed.specs.Floor.{modulo, modulo_lt}
 use Rattle.signed.specs.Cast.{u16, i16}
 use Rattle.object.specs.declared.types.Verdict.{Verdict}
 use Rattle.object.specs.declared.types.Verdict.TheVariants as verdict
-use Rattle.load_tile.specs.declared.load.LoadRequest.TheVariants as request
 use Rattle.load_tile.specs.Load.{words_of, rows_of, stride_of, offset_of, granted, pick_request, request_of}
 use Rattle.plan.specs.declared.types.Entry.{Entry}
 use Rattle.plan.specs.declared.types.Entry.TheVariants as entry
@@ -115,7 +114,7 @@ load_stride (suc (suc zero)) width h l = omega arith
 load_stride (suc (suc (suc zero))) width h l = omega arith
 load_stride (suc (suc (suc (suc n)))) width h l = absurd (omega arith)
 
-few_request : (t : Bool) (words rows stride start len i uls ult lrs lrt : ℕ) → (t ≡ true → Small (entry.Load i uls ult lrs lrt words rows stride start len)) → Few Any 1 (load_out (pick_request t (request.Load words rows stride start len) request.Overflow) i uls ult lrs lrt)
+few_request : (t : Bool) (words rows stride start len i uls ult lrs lrt : ℕ) → (t ≡ true → Small (entry.Load i uls ult lrs lrt words rows stride start len)) → Few Any 1 (load_out (pick_request t (record { words = words; rows = rows; stride = stride; start = start; length = len })) i uls ult lrs lrt)
 unfolding load_out
 few_request true words rows stride start len i uls ult lrs lrt h = record { small = (h refl, tt); few = omega arith; goes = tt }
 few_request false words rows stride start len i uls ult lrs lrt h = record { small = tt; few = omega arith; goes = tt }

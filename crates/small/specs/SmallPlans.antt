@@ -1,6 +1,6 @@
 -- Every plan has few entries, all of small numbers: by the fuel of its walks, and by the ranges that its checks and its set-up leave.
 -- Assumes nothing.
-use Rattle.std.specs.Prelude.{◌≡◌, refl, Bool, true, false, cond, ◌||◌, List, [], ◌∷◌, ℕ, zero, suc, ◌+◌, ◌-◌, ◌*◌, ◌/◌, ◌%◌, ◌^◌, ◌≤◌, ◌<◌, ltb, eqb, ℤ, pos, negsuc, neg_ℤ, ◌+ℤ◌, ◌-ℤ◌, ◌*ℤ◌, length}
+use Rattle.std.specs.Prelude.{◌≡◌, refl, Bool, true, false, cond, ◌||◌, List, [], ◌∷◌, ℕ, zero, suc, ◌+◌, ◌-◌, ◌*◌, ◌/◌, ◌%◌, ◌^◌, ◌≤◌, ◌<◌, ltb, eqb, ℤ, pos, negsuc, neg_ℤ, ◌+ℤ◌, ◌-ℤ◌, ◌*ℤ◌, length, Ok, Err}
 use Rattle.std.proofs.Common.{ap, arith, mul-le-mul, ltb-true}
 use Rattle.std.specs.Int.Signed.{lt_z, le_z}
 use Rattle.signed.specs.Diff.{up, zdiff, zparts, zarith}
@@ -9,8 +9,8 @@ use Rattle.signed.specs.Cast.{u16, i16}
 use Rattle.object.specs.declared.types.Verdict.TheVariants as verdict
 use Rattle.object.specs.declared.types.ObjBg.{ObjBg}
 use Rattle.object.specs.declared.types.Scissor.{Scissor}
-use Rattle.object.specs.declared.types.Checked.{Checked}
-use Rattle.object.specs.declared.types.Checked.TheVariants as checked
+use Rattle.checks.specs.Check.{Checked}
+use Rattle.object.specs.declared.types.Background.TheVariants as background
 use Rattle.checks.specs.Check.{checked_of}
 use Rattle.measures.specs.Measure.{quarters, texels, of_texels}
 use Rattle.object.specs.Layout.{Bytes, layout, value_of, decode}
@@ -246,9 +246,9 @@ tmem_in bs b = omega (arith, read_below bs 30 2 b)
 
 few_checked : (q : Request) (r : Checked) → Asked q → checked_of 4 q.bytes q.opcode q.scissor ≡ r → Few Any 5232646 (checked_out r q)
 unfolding checked_out
-few_checked q (checked.Refused v) h e = few_wider 5232646 _ (omega arith) (few_stop [] v)
-few_checked q (checked.Copy bg) h e = few_copied bg q (passed_copy 4 q.bytes q.opcode q.scissor bg h.bytes e) (omega (arith, ap (λ (o : ObjBg). o.tmem_h) (checked_copy_is 4 q.bytes q.opcode q.scissor bg e), tmem_in q.bytes h.bytes)) h.address
-few_checked q (checked.Scaled bg) h e = few_wider 5232646 _ (omega arith) (few_made bg q (passed_scaled 4 q.bytes q.opcode q.scissor bg h.bytes e) h.address)
+few_checked q (Err v) h e = few_wider 5232646 _ (omega arith) (few_stop [] v)
+few_checked q (Ok (background.Copy bg)) h e = few_copied bg q (passed_copy 4 q.bytes q.opcode q.scissor bg h.bytes e) (omega (arith, ap (λ (o : ObjBg). o.tmem_h) (checked_copy_is 4 q.bytes q.opcode q.scissor bg e), tmem_in q.bytes h.bytes)) h.address
+few_checked q (Ok (background.Scaled bg)) h e = few_wider 5232646 _ (omega arith) (few_made bg q (passed_scaled 4 q.bytes q.opcode q.scissor bg h.bytes e) h.address)
 
 -- the numbers of every plan's entries, and how many there are
 pub plan_small : (q : Request) → Asked q → AllSmall (plan_of q).entries × (length (plan_of q).entries ≤ 5232646)
@@ -260,7 +260,7 @@ plan_small q h = by (checked_out (checked_of 4 q.bytes q.opcode q.scissor) q) (f
     by (stop es l v) f = (f.small, f.few)
 
 -- a scaled plan's, from what its checks told
-pub scaled_small : (q : Request) (bg : ObjBg) → checked_of 4 q.bytes q.opcode q.scissor ≡ checked.Scaled bg → PassedScaled bg q.scissor → q.address < 2 ^ 64 → AllSmall (plan_of q).entries
+pub scaled_small : (q : Request) (bg : ObjBg) → checked_of 4 q.bytes q.opcode q.scissor ≡ Ok (background.Scaled bg) → PassedScaled bg q.scissor → q.address < 2 ^ 64 → AllSmall (plan_of q).entries
 unfolding plan_of plan_with checked_out
 scaled_small q bg e p a = rw e (by (scaled_out bg q) (few_made bg q p a))
   where

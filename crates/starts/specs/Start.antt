@@ -1,6 +1,6 @@
 -- Where a plan starts: each refusal, an empty frame, and the first place of each mode. D is docs/SPECIFICATION.md, section 4.
 -- Assumes nothing.
-use Rattle.std.specs.Prelude.{◌≡◌, refl, true, false, List, [], ℕ}
+use Rattle.std.specs.Prelude.{◌≡◌, refl, true, false, List, [], ℕ, Ok, Err}
 use Rattle.std.proofs.Math.Path.{sym, ap}
 use Rattle.std.proofs.Common.{◌∙◌}
 use native.Mathlib.Omega.{arith}
@@ -8,7 +8,7 @@ use Rattle.object.specs.declared.types.ObjBg.{ObjBg}
 use Rattle.object.specs.declared.types.Scissor.{Scissor}
 use Rattle.object.specs.declared.types.Verdict.{Verdict}
 use Rattle.object.specs.declared.types.Verdict.TheVariants as verdict
-use Rattle.object.specs.declared.types.Checked.TheVariants as checked
+use Rattle.object.specs.declared.types.Background.TheVariants as background
 use Rattle.checks.specs.Check.{checked_of}
 use Rattle.plan.specs.declared.types.Scaled.{Scaled}
 use Rattle.plan.specs.declared.types.End.{End}
@@ -114,15 +114,15 @@ module _ (bytes : List ℕ) (opcode : ℕ) (s : Scissor) (mode address : ℕ) wh
         sound = record { course = g.sound; counts = zero_countable; few = omega arith };
       }
 
-  pub fresh_refused : (v : Verdict) → checked_of 4 bytes opcode s ≡ checked.Refused v → Fresh bytes opcode s mode address (record { course = course.Over v; counts = zero_counts })
+  pub fresh_refused : (v : Verdict) → checked_of 4 bytes opcode s ≡ Err v → Fresh bytes opcode s mode address (record { course = course.Over v; counts = zero_counts })
   unfolding plan_of plan_with checked_out
   fresh_refused v e = fresh_from (course.Over v) (over_starts _ v (rw e))
 
-  pub fresh_copy : (bg : ObjBg) (r : Course) → checked_of 4 bytes opcode s ≡ checked.Copy bg → StartsCopy bg s address r → Fresh bytes opcode s mode address (record { course = r; counts = zero_counts })
+  pub fresh_copy : (bg : ObjBg) (r : Course) → checked_of 4 bytes opcode s ≡ Ok (background.Copy bg) → StartsCopy bg s address r → Fresh bytes opcode s mode address (record { course = r; counts = zero_counts })
   unfolding plan_of plan_with checked_out
   fresh_copy bg r e g = fresh_from r (rw e (g bytes opcode mode))
 
-  pub fresh_scaled : (bg : ObjBg) (r : Course) → checked_of 4 bytes opcode s ≡ checked.Scaled bg → StartsScaled bg s mode address r → Fresh bytes opcode s mode address (record { course = r; counts = zero_counts })
+  pub fresh_scaled : (bg : ObjBg) (r : Course) → checked_of 4 bytes opcode s ≡ Ok (background.Scaled bg) → StartsScaled bg s mode address r → Fresh bytes opcode s mode address (record { course = r; counts = zero_counts })
   unfolding plan_of plan_with checked_out
   fresh_scaled bg r e g = fresh_from r (rw e (g bytes opcode))
 

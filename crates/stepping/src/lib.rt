@@ -112,9 +112,9 @@ pub fn visor_step(state: &mut [u64], bank: &mut [u64], out: &mut [u64]) -> u64
 pub fn visor_start(object: &[u8], request: &[u64], state: &mut [u64]) -> u64
     ensures { StartIs object.now request.now state.old result state.new }
 {
-    if request.len() != REQUEST {
+    let Ok(request) = <&[u64; REQUEST]>::try_from(request) else {
         return 1;
-    }
+    };
     if state.len() != STATE {
         return 1;
     }

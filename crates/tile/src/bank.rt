@@ -54,15 +54,17 @@ fn replaced(old: Tile, tile: Tile) -> Tile
     }
 }
 
+// The two by-value functions are the customer's form. One over a closure would have a contract longer than both bodies.
+
 // Sets a tile; there is none from 8 on, and nothing is set.
+#[tactic(auto, unfolding(crate::specs::Bank::set_tile))]
 fn with_tile(bank: Bank, index: usize, tile: Tile) -> Bank
     ensures { result ≡ set_tile bank index tile }
 {
-    if 8 <= index {
-        return bank;
-    }
     let mut next = bank;
-    next.tiles[index] = replaced(bank.tiles[index], tile);
+    if index < 8 {
+        next.tiles[index] = replaced(bank.tiles[index], tile);
+    }
     next
 }
 
@@ -70,7 +72,7 @@ fn with_tile(bank: Bank, index: usize, tile: Tile) -> Bank
 pub fn texels(low: u16, high: u16) -> u16
     ensures { result ≡ extent low high }
 {
-    if low < high { (high - low) / 4 + 1 } else { 1 }
+    high.saturating_sub(low) / 4 + 1
 }
 
 // A tile with other bounds, and the width and height that follow.
@@ -88,14 +90,14 @@ fn resized(old: Tile, uls: u16, ult: u16, lrs: u16, lrt: u16) -> Tile
 }
 
 // Sets a tile's bounds; nothing where there is no such tile.
+#[tactic(auto, unfolding(crate::specs::Bank::set_size))]
 fn with_tile_size(bank: Bank, index: usize, uls: u16, ult: u16, lrs: u16, lrt: u16) -> Bank
     ensures { result ≡ set_size bank index uls ult lrs lrt }
 {
-    if 8 <= index {
-        return bank;
-    }
     let mut next = bank;
-    next.tiles[index] = resized(bank.tiles[index], uls, ult, lrs, lrt);
+    if index < 8 {
+        next.tiles[index] = resized(bank.tiles[index], uls, ult, lrs, lrt);
+    }
     next
 }
 

@@ -32,9 +32,9 @@ pub fn visor_run(
 ) -> u64
     ensures { left result bank.new plan.new end.new ≡ host_run object.now request.now bank.old plan.old end.old }
 {
-    if request.len() != REQUEST {
+    let Ok(request) = <&[u64; REQUEST]>::try_from(request) else {
         return 1;
-    }
+    };
     if bank.len() != BANK {
         return 1;
     }
@@ -53,9 +53,9 @@ pub fn visor_run(
 pub fn visor_count(object: &[u8], request: &[u64], end: &mut [u64]) -> u64
     ensures { counted result end.new ≡ host_count object.now request.now end.old }
 {
-    if request.len() != REQUEST {
+    let Ok(request) = <&[u64; REQUEST]>::try_from(request) else {
         return 1;
-    }
+    };
     if end.len() != END {
         return 1;
     }

@@ -8,7 +8,6 @@ ghost use Rattle.plan.specs.Scaled.{tile7 as tile7_of, lrs_of, lrt_of, rect_of};
 ghost use Rattle.loads.specs.Coming.{tile0 as tile0_of, image_of, rows_out};
 ghost use Rattle.loads.specs.Sound.{SoundPass, SoundPart, loaded_out};
 
-use load_tile::LoadRequest;
 use loads::{Loaded, Part, Place};
 use measures::Quarters;
 use plan::{Entry, Scaled};
@@ -106,25 +105,19 @@ pub fn load(z: Scaled, q: Part) -> Loaded
     let field = width_field(z.stride);
     let siz = load_size(z.siz) as u8;
     match load_tile::load_request(siz, field, q.pointer, 0, 0, lrs, lrt) {
-        LoadRequest::Load {
-            words,
-            rows,
-            stride,
-            start,
-            length,
-        } => Loaded::Entry(Entry::Load {
+        Some(request) => Loaded::Entry(Entry::Load {
             index: 7,
             uls: 0,
             ult: 0,
-            lrs: lrs as u64,
-            lrt: lrt as u64,
-            words,
-            rows,
-            stride,
-            start,
-            length,
+            lrs: u64::from(lrs),
+            lrt: u64::from(lrt),
+            words: request.words,
+            rows: request.rows,
+            stride: request.stride,
+            start: request.start,
+            length: request.length,
         }),
-        LoadRequest::Overflow => Loaded::Refused(Entry::Size {
+        None => Loaded::Refused(Entry::Size {
             index: 7,
             uls: 0,
             ult: 0,

@@ -1,4 +1,5 @@
 -- The Rust's words are the row's conditions, joined from the left.
+use Rattle.std.proofs.Common.{arith, ◌<◌, ◌^◌}
 use Rattle.std.proofs.Math.Bool.{or_assoc, or-false}
 use Rattle.checks.specs.Check.{copy_faults}
 use Rattle.checks.specs.Ties.{none, product}
@@ -12,10 +13,10 @@ returns c =
       c.strip_lines.ensures.0,
       c.texels.ensures,
       c.texels-2.ensures,
-      product c.wide.result c.wide-2.result c.wide.ensures.1 c.wide-2.ensures.1,
-      c.wide.ensures.0,
-      c.wide-2.ensures.0,
-      c.wide-3.ensures.0,
-      c.wide-4.ensures.0,
+      product c.from.result c.from-2.result (omega (arith, c.from.ensures)) (omega (arith, c.from-2.ensures)),
+      c.from.ensures,
+      c.from-2.ensures,
+      c.from-3.ensures,
+      c.from-4.ensures,
     )
     (simp (none, or_assoc, or-false))

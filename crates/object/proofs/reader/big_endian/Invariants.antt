@@ -1,10 +1,6 @@
--- The number so far is that of the first `i` bytes, below 256 ^ i.
-use Rattle.std.proofs.Common.{◌-◌, ◌≤◌}
+-- The number so far is that of the first bytes, below 256 to their number.
 use Rattle.object.specs.Layout.{ReadIs}
 use Rattle.object.proofs.reader.big_endian.Given as goal
 
-abbrev pub invariant-loop-i : goal.invariant-loop-i
-invariant-loop-i l = (l.i ≤ l.n) × ReadIs l.s l.at l.i l.number
-
-abbrev pub decreases-loop-i : goal.decreases-loop-i
-decreases-loop-i l = l.n - l.i
+abbrev pub invariant-loop-byte : goal.invariant-loop-byte
+invariant-loop-byte l = ReadIs l.s l.at l.byte-index l.number
