@@ -9,7 +9,7 @@ ghost use Rattle.loads.specs.Coming.{tile0 as tile0_of, image_of, rows_out};
 ghost use Rattle.loads.specs.Sound.{SoundPass, SoundPart, loaded_out};
 
 use load_tile::LoadRequest;
-use loads::{Loaded, Part, Place};
+use loads::{Part, Place, Refused};
 use measures::Quarters;
 use plan::{Entry, Scaled};
 
@@ -96,7 +96,7 @@ fn lower(z: Scaled, rows: i64) -> u16
 }
 
 // The load of a part, or the size that a refused load has set.
-pub fn load(z: Scaled, q: Part) -> Loaded
+pub fn load(z: Scaled, q: Part) -> Result<Entry, Refused>
     requires sound_scaled { SoundScaled z }
     requires sound_part { SoundPart q }
     ensures { loaded_out result ≡ rows_out z q }
@@ -112,7 +112,7 @@ pub fn load(z: Scaled, q: Part) -> Loaded
             stride,
             start,
             length,
-        } => Loaded::Entry(Entry::Load {
+        } => Ok(Entry::Load {
             index: 7,
             uls: 0,
             ult: 0,
@@ -124,13 +124,13 @@ pub fn load(z: Scaled, q: Part) -> Loaded
             start,
             length,
         }),
-        LoadRequest::Overflow => Loaded::Refused(Entry::Size {
+        LoadRequest::Overflow => Err(Refused(Entry::Size {
             index: 7,
             uls: 0,
             ult: 0,
             lrs: lrs as u64,
             lrt: lrt as u64,
-        }),
+        })),
     }
 }
 

@@ -5,8 +5,9 @@ use Rattle.plan.specs.Scaled.{back}
 use Rattle.loads.specs.Coming.{sum_out}
 use Rattle.loads.specs.Comes.{wider, difference_in, less_in, plus_in}
 use Rattle.loads.specs.Kept.{remain_in}
-use Rattle.loads.specs.Enter.{top_1, top_2, top_3, ended_as, reaches_as}
-use Rattle.loads.proofs.Read.{value, odd_low, remain_is, line_is, line_in, offset_is}
+use Rattle.loads.specs.Sums.{checked_sum}
+use Rattle.loads.specs.Enter.{top_1, top_2, top_3, ended_as, reaches_as, none_ends}
+use Rattle.loads.proofs.Read.{value, odd_low, remain_is, line_is, line_in}
 use Rattle.loads.proofs.load.from_top.Goals as goal
 
 pub difference-rows-requires : goal.difference-rows-requires
@@ -14,18 +15,22 @@ difference-rows-requires c =
     let h = c.requires.sound_pass in
     (rw (rd c.ranges.lines) (wider 44 60 _ (lit≤ tt) c.requires.within), rw (remain_is c.args.p h) (wider 43 60 _ (lit≤ tt) (remain_in c.args.p.walk h.walk)))
 
-pub returns-in_default : goal.returns-in_default
-returns-in_default c =
+pub returns-in_err-first : goal.returns-in_err-first
+returns-in_err-first c =
     let p = c.args.p in
-    ended_as _ (top_1 p c.args.lines c.requires.remain_value _ refl (rw (offset_is p.scaled c.requires.sound_pass.scaled, c.in_default.is) at c.source_address.ensures))
+    let none = c.in_err-first.ensures in
+    let first = checked_sum p.scaled.address p.scaled.x_offset _ c.checked_add.ensures in
+    rw (none_ends none.ok_part none.value c.from_residual.ensures.1) (ended_as _ (top_1 p c.args.lines c.requires.remain_value _ refl (rw none.ok_part at first)))
 
-pub returns-in_default-back : goal.returns-in_default-back
-returns-in_default-back c =
+pub returns-in_err-pointer : goal.returns-in_err-pointer
+returns-in_err-pointer c =
     let p = c.args.p in
-    let h = c.requires.sound_pass in
-    let odd = rw (remain_is p h) at c.rem_euclid-odd.ensures in
-    let b : sum_out c.back.result ≡ back p.scaled c.rem_euclid-odd.result c.in-At.first = c.back.ensures in
-    ended_as _ (top_2 p c.args.lines c.requires.remain_value _ odd _ (rw (offset_is p.scaled h.scaled, c.in-At.is) at c.source_address.ensures) (rw c.in_default-back.is at b))
+    let odd = rw (remain_is p c.requires.sound_pass) at c.rem_euclid-odd.ensures in
+    let none = c.in_err-pointer.ensures in
+    let first = checked_sum p.scaled.address p.scaled.x_offset _ c.checked_add.ensures in
+    let b : sum_out c.back.result ≡ back p.scaled c.rem_euclid-odd.result c.in_ok-first.first = c.back.ensures in
+    rw (none_ends none.ok_part none.value c.from_residual-in_err-pointer.ensures.1)
+    (ended_as _ (top_2 p c.args.lines c.requires.remain_value _ odd _ (rw c.in_ok-first.ensures.ok_part at first) (rw none.ok_part at b)))
 
 pub less-requires : goal.less-requires
 less-requires c =
@@ -68,6 +73,7 @@ returns c =
     let count = value c.plus.type_inv (rw rows at c.plus.ensures) in
     let even = value c.less.type_inv (rw (remain_is p h) at c.less.ensures) in
     let place = value c.times-destination.type_inv (rw even at c.times-destination.ensures) in
-    let b : sum_out c.back.result ≡ back p.scaled c.rem_euclid-odd.result c.in-At.first = c.back.ensures in
-    reaches_as (top_3 p c.args.lines c.requires.remain_value _ odd _ (rw (offset_is p.scaled h.scaled, c.in-At.is) at c.source_address.ensures) _ (rw c.in-At-back.is at b))
+    let first = checked_sum p.scaled.address p.scaled.x_offset _ c.checked_add.ensures in
+    let b : sum_out c.back.result ≡ back p.scaled c.rem_euclid-odd.result c.in_ok-first.first = c.back.ensures in
+    reaches_as (top_3 p c.args.lines c.requires.remain_value _ odd _ (rw c.in_ok-first.ensures.ok_part at first) _ (rw c.in_ok-pointer.ensures.ok_part at b))
     (omega arith) (rw (count, place, line_is p.scaled h.scaled) at c.enter.ensures)
