@@ -4,7 +4,7 @@ use Rattle.std.specs.Prelude.{◌≡◌, refl, Option, Some, None, SomeIff, Bool
 use Rattle.std.proofs.Common.{ap, ◌∙◌, sym, lt-ltb, le-ltb, arith}
 use Rattle.std.specs.Int.Signed.{lt_z}
 use Rattle.std.specs.Int.{w64, FitsUnsigned}
-use Rattle.signed.specs.Diff.{up, dn, zdiff, zparts, zarith}
+use Rattle.signed.specs.Diff.{up, zdiff, zarith}
 use Rattle.object.specs.declared.types.Verdict.TheVariants as verdict
 use Rattle.plan.specs.Out.{Out, yield, refuse}
 use Rattle.plan.specs.Load.{source_address}

@@ -90,9 +90,9 @@ pub type Reached = Result<(Stage, Place), Verdict>;
 // A pass and the part that is given of its load, or the plan's end.
 pub type Begun = Result<(Piece, Place), Verdict>;
 
-// A load is refused: the size that it has set.
+// A load that is refused, with the size that it has set.
 #[derive(Clone, Copy)]
 pub struct Refused(pub Entry);
 
-// What one step answers: an entry and where the plan stands then, or the plan's end.
+// What one step answers: an entry and where the plan stands then, or a refused load.
 pub type ScaledNext = Result<(Entry, Reached), Refused>;

@@ -1,5 +1,5 @@
 -- No row is the pointer itself, and one row back is the library's checked difference.
-use Rattle.std.proofs.Common.{arith, sym, ◌∙◌, eq-eqb, ne_eqb}
+use Rattle.std.proofs.Common.{sym, ◌∙◌, ne_eqb}
 use Rattle.loads.specs.Loads.{back_one}
 use Rattle.loads.specs.Sums.{checked_difference}
 use Rattle.loads.proofs.load.back.Goals as goal
