@@ -9,11 +9,15 @@ ghost use Rattle.loads.specs.Coming.{sum_out, moved_out};
 use crate::rows::{difference, less, plus, times};
 use plan::{Scaled, Source};
 
-// `source_address`: an address and an offset of either sign.
+// `source_address`: an address and an offset of either sign. `checked_add_signed` took longer: it makes the offset's size before it looks at the sign.
 pub fn source_address(address: u64, offset: i64) -> Option<u64>
     ensures { sum_out result ≡ source_address address offset }
 {
-    address.checked_add_signed(offset)
+    if offset < 0 {
+        address.checked_sub(offset.unsigned_abs())
+    } else {
+        address.checked_add(offset as u64)
+    }
 }
 
 // The source after rows that were drawn or passed over: further on, or from the image's top again.
