@@ -1,8 +1,9 @@
 -- What a scaled plan has still to come, at each place of a pass: the rest of `load_1cyc`, the rectangle, and the passes after it.
 -- Assumes nothing.
-use Rattle.std.specs.Prelude.{true, [], ℕ, ◌+◌, ◌*◌, ◌%◌, ◌^◌, ℤ, pos, ◌+ℤ◌, ◌-ℤ◌, ◌*ℤ◌}
+use Rattle.std.specs.Prelude.{true, [], Option, Some, None, Result, Ok, Err, ℕ, ◌+◌, ◌*◌, ◌%◌, ◌^◌, ℤ, pos, ◌+ℤ◌, ◌-ℤ◌, ◌*ℤ◌}
 use Rattle.signed.specs.Diff.{up}
 use Rattle.signed.specs.Floor.{floor_div, modulo}
+use Rattle.object.specs.declared.types.Verdict.{Verdict}
 use Rattle.object.specs.declared.types.Verdict.TheVariants as verdict
 use Rattle.plan.specs.declared.types.Entry.{Entry}
 use Rattle.plan.specs.declared.types.Entry.TheVariants.{Image, Tile, Size}
@@ -13,10 +14,6 @@ use Rattle.plan.specs.Out.{Out, Plan, ◌>>=◌, ◌>>◌, yield, emit, refuse, 
 use Rattle.plan.specs.Load.{source_address}
 use Rattle.plan.specs.Next.{ended}
 use Rattle.plan.specs.Scaled.{size_of, field_of, tile7, load_part, load_of_rows, load_1cyc_tile, from_top, split_row, up_to_end, advance, load_1cyc, draw_of, rect_of, after_draw, passes}
-use Rattle.loads.specs.declared.types.Sum.{Sum}
-use Rattle.loads.specs.declared.types.Sum.TheVariants as sum
-use Rattle.loads.specs.declared.types.Moved.{Moved}
-use Rattle.loads.specs.declared.types.Moved.TheVariants as moved
 use Rattle.loads.specs.declared.types.Part.{Part}
 use Rattle.loads.specs.declared.types.Piece.{Piece}
 use Rattle.loads.specs.declared.types.Piece.TheVariants as piece
@@ -27,17 +24,19 @@ use Rattle.loads.specs.declared.types.Turn.TheVariants as turn
 use Rattle.loads.specs.declared.types.Stage.{Stage}
 use Rattle.loads.specs.declared.types.Stage.TheVariants as stage
 use Rattle.loads.specs.declared.types.Place.{Place}
-use Rattle.loads.specs.declared.types.Reached.{Reached}
-use Rattle.loads.specs.declared.types.Reached.TheVariants as reached
+
+-- where the plan stands, or its end
+abbrev pub Reached : Type 0
+Reached = Result (Stage × Place) Verdict
 
 -- an address sum as a part of a plan
-abbrev pub sum_out : Sum → Out ℕ
-sum_out (sum.At p) = yield p
-sum_out sum.Overflow = refuse verdict.Address
+abbrev pub sum_out : Option ℕ → Out ℕ
+sum_out (Some p) = yield p
+sum_out None = refuse verdict.Address
 
-abbrev pub moved_out : Moved → Out Source
-moved_out (moved.To s) = yield s
-moved_out moved.Overflow = refuse verdict.Address
+abbrev pub moved_out : Option Source → Out Source
+moved_out (Some s) = yield s
+moved_out None = refuse verdict.Address
 
 -- the passes from a walk, with fuel for every line left
 unfoldable pub passes_of : Scaled → Walk → Out (Unit {0})
@@ -168,5 +167,5 @@ coming_scaled stage.Size p = plan_out (emit (Size 0 0 0 0 0) >> passes_of p.scal
 coming_scaled stage.Rect p = plan_out (drawn p.scaled p.walk p.lines p.next)
 
 abbrev pub coming_reached : Reached → Plan
-coming_reached (reached.At s p) = coming_scaled s p
-coming_reached (reached.Ended v) = ended [] v
+coming_reached (Ok q) = coming_scaled q.0 q.1
+coming_reached (Err v) = ended [] v

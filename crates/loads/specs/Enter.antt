@@ -1,9 +1,10 @@
 -- The parts of a load as places that are reached: what each has to come, its ranges, and how many entries at the most.
 -- Assumes nothing.
-use Rattle.std.specs.Prelude.{◌≡◌, true, [], ℕ, ◌+◌, ◌≤◌, eqb, ℤ, pos, ◌+ℤ◌, ◌-ℤ◌, ◌*ℤ◌}
+use Rattle.std.specs.Prelude.{◌≡◌, Option, None, Result, Ok, Err, IsErrAnd, ok_or, true, [], ℕ, ◌+◌, ◌≤◌, eqb, ℤ, pos, ◌+ℤ◌, ◌-ℤ◌, ◌*ℤ◌}
 use Rattle.std.proofs.Math.Path.{refl, sym, ap}
 use Rattle.std.proofs.Common.{◌∙◌, arith}
 use Rattle.std.proofs.Math.Bool.{false}
+use Rattle.std.proofs.lemmas.Result.{err_from_is_err_and}
 use Rattle.signed.specs.Floor.{modulo}
 use Rattle.plan.specs.Next.{ended}
 use Rattle.std.specs.Int.Signed.{lt_z, le_z}
@@ -22,9 +23,7 @@ use Rattle.loads.specs.declared.types.Choice.{Choice}
 use Rattle.loads.specs.declared.types.Choice.TheVariants as choice
 use Rattle.loads.specs.declared.types.Stage.TheVariants as stage
 use Rattle.loads.specs.declared.types.Place.{Place}
-use Rattle.loads.specs.declared.types.Reached.{Reached}
-use Rattle.loads.specs.declared.types.Reached.TheVariants as reached
-use Rattle.loads.specs.Coming.{loadable_of, split_rows, split_from, split_width, parts_from, top_then, rest_out, whole_out, piece_out, drawn, pass_from, part_then, whole_part, after_part, after_whole, coming_scaled}
+use Rattle.loads.specs.Coming.{Reached, loadable_of, split_rows, split_from, split_width, parts_from, top_then, rest_out, whole_out, piece_out, drawn, pass_from, part_then, whole_part, after_part, after_whole, coming_scaled}
 use Rattle.loads.specs.Loads.{then_assoc, part_bad, part_refused, part_given, part_whole, split_on, split_off, rest_on, rest_off, top_on, top_off, load_whole, load_wraps}
 use Rattle.loads.specs.Kept.{Left, advance_left, stay_left, draw_kept}
 use Rattle.loads.specs.Sound.{SoundPass, SoundRect, Reaches, before, Meets, Chose, left_pass, after_piece}
@@ -46,17 +45,17 @@ abbrev pub part_of : ℕ → (rows destination width : ℤ) → Part
 part_of pointer rows destination width = record { pointer = pointer; rows = rows; destination = destination; width = width }
 
 -- nothing but a verdict is to come
-ended_is : {v : Verdict} (p : Place) (o : Out Source) (n : ℕ) → o ≡ refuse v → Reaches (pass_from p o) n (reached.Ended v)
+ended_is : {v : Verdict} (p : Place) (o : Out Source) (n : ℕ) → o ≡ refuse v → Reaches (pass_from p o) n (Err v)
 ended_is p o n e = record { is = rw e; sound = tt; left = omega arith }
 
 same_pass : (p : Place) (k : Piece) (q : Part) → SoundPass p → SoundPass (with_part p k q)
 same_pass p k q h = record { scaled = h.scaled; walk = h.walk; draws = h.draws; lines = h.lines; left = h.left; rows = h.rows; rows' = h.rows'; whole = h.whole }
 
 module _ (k : Piece) (p : Place) (pointer : ℕ) (rows destination width : ℤ) (h : SoundPass p) (r : Within 47 rows) (w : Within 47 width) where
-  pub enter_refused : part_bad rows destination width ≡ true → Reaches (part_then k p pointer rows destination width) (3 + after_piece k + left_pass p) (reached.Ended verdict.Piece)
+  pub enter_refused : part_bad rows destination width ≡ true → Reaches (part_then k p pointer rows destination width) (3 + after_piece k + left_pass p) (Err verdict.Piece)
   enter_refused t = ended_is p _ _ (ap (λ (o : Out (Unit {0})). o >> after_part k p) (part_refused p.scaled pointer rows destination width true t))
 
-  pub enter_given : part_bad rows destination width ≡ false → Reaches (part_then k p pointer rows destination width) (3 + after_piece k + left_pass p) (reached.At stage.Tile (with_part p k (part_of pointer rows destination width)))
+  pub enter_given : part_bad rows destination width ≡ false → Reaches (part_then k p pointer rows destination width) (3 + after_piece k + left_pass p) (Ok (stage.Tile, with_part p k (part_of pointer rows destination width)))
   unfolding coming_scaled
   enter_given t =
       record {
@@ -67,12 +66,12 @@ module _ (k : Piece) (p : Place) (pointer : ℕ) (rows destination width : ℤ) 
 
 -- R 175–176: no row wraps
 module _ (p : Place) (h : SoundPass p) (m : Meets choice.Whole p) where
-  pub whole_refused : part_bad (whole_part p).rows (pos 0) (whole_part p).width ≡ true → Reaches (pass_from p (after_part piece.Start p)) (13 + left_pass p) (reached.Ended verdict.Piece)
+  pub whole_refused : part_bad (whole_part p).rows (pos 0) (whole_part p).width ≡ true → Reaches (pass_from p (after_part piece.Start p)) (13 + left_pass p) (Err verdict.Piece)
   unfolding piece_out
   whole_refused t =
       ended_is p _ _ (load_whole p.scaled p.walk.source p.rows m ∙ ap (λ (o : Out (Unit {0})). o >> after_whole p) (part_refused p.scaled (whole_part p).pointer (whole_part p).rows (pos 0) (whole_part p).width false t))
 
-  pub whole_given : part_bad (whole_part p).rows (pos 0) (whole_part p).width ≡ false → Reaches (pass_from p (after_part piece.Start p)) (13 + left_pass p) (reached.At stage.Whole p)
+  pub whole_given : part_bad (whole_part p).rows (pos 0) (whole_part p).width ≡ false → Reaches (pass_from p (after_part piece.Start p)) (13 + left_pass p) (Ok (stage.Whole, p))
   unfolding coming_scaled piece_out
   whole_given t =
       record {
@@ -90,7 +89,7 @@ next_sound p next h l =
 
 -- the move after the loads, and the rectangle
 module _ (p : Place) (h : SoundPass p) where
-  pub moved_to : (next : Source) → yield next ≡ advance p.scaled p.walk.source p.rows → Reaches (pass_from p (after_part piece.Rest p)) (1 + left_pass p) (reached.At stage.Rect (with_next p next))
+  pub moved_to : (next : Source) → yield next ≡ advance p.scaled p.walk.source p.rows → Reaches (pass_from p (after_part piece.Rest p)) (1 + left_pass p) (Ok (stage.Rect, with_next p next))
   unfolding coming_scaled piece_out
   moved_to next e =
       record {
@@ -99,12 +98,12 @@ module _ (p : Place) (h : SoundPass p) where
         left = omega arith;
       }
 
-  pub moved_refused : refuse verdict.Address ≡ advance p.scaled p.walk.source p.rows → Reaches (pass_from p (after_part piece.Rest p)) (1 + left_pass p) (reached.Ended verdict.Address)
+  pub moved_refused : refuse verdict.Address ≡ advance p.scaled p.walk.source p.rows → Reaches (pass_from p (after_part piece.Rest p)) (1 + left_pass p) (Err verdict.Address)
   unfolding piece_out
   moved_refused e = ended_is p _ _ (sym e)
 
   pub on_to : (pointer : ℕ) (bytes : ℤ) → yield pointer ≡ source_address p.walk.source.pointer bytes → bytes ≡ pos p.scaled.stride *ℤ p.rows
-      → Reaches (pass_from p (after_whole p)) (1 + left_pass p) (reached.At stage.Rect (with_next p (record { pointer = pointer; remain = p.walk.source.remain -ℤ p.rows })))
+      → Reaches (pass_from p (after_whole p)) (1 + left_pass p) (Ok (stage.Rect, with_next p (record { pointer = pointer; remain = p.walk.source.remain -ℤ p.rows })))
   unfolding coming_scaled whole_out
   on_to pointer bytes e b =
       record {
@@ -113,12 +112,12 @@ module _ (p : Place) (h : SoundPass p) where
         left = omega arith;
       }
 
-  pub on_refused : (bytes : ℤ) → refuse verdict.Address ≡ source_address p.walk.source.pointer bytes → bytes ≡ pos p.scaled.stride *ℤ p.rows → Reaches (pass_from p (after_whole p)) (1 + left_pass p) (reached.Ended verdict.Address)
+  pub on_refused : (bytes : ℤ) → refuse verdict.Address ≡ source_address p.walk.source.pointer bytes → bytes ≡ pos p.scaled.stride *ℤ p.rows → Reaches (pass_from p (after_whole p)) (1 + left_pass p) (Err verdict.Address)
   unfolding whole_out
   on_refused bytes e b = ended_is p (after_whole p) (1 + left_pass p) (rw (← b, ← e))
 
   -- no row before the image's last: the tile alone
-  pub rest_none : lt_z (pos 0) (loadable_of p.scaled p.walk.source) ≡ false → Reaches (pass_from p (after_part piece.SplitA p)) (4 + left_pass p) (reached.At stage.Last p)
+  pub rest_none : lt_z (pos 0) (loadable_of p.scaled p.walk.source) ≡ false → Reaches (pass_from p (after_part piece.SplitA p)) (4 + left_pass p) (Ok (stage.Last, p))
   unfolding coming_scaled piece_out rest_out
   rest_none t =
       record {
@@ -131,8 +130,15 @@ module _ (p : Place) (h : SoundPass p) where
 pub reaches_as : {plan plan' : Plan} {n m : ℕ} {r : Reached} → plan ≡ plan' → n ≤ m → Reaches plan n r → Reaches plan' m r
 reaches_as e h g = let l = g.left in record { is = g.is ∙ e; sound = g.sound; left = omega arith }
 
-pub ended_as : {v : Verdict} {plan : Plan} (n : ℕ) → ended [] v ≡ plan → Reaches plan n (reached.Ended v)
+pub ended_as : {v : Verdict} {plan : Plan} (n : ℕ) → ended [] v ≡ plan → Reaches plan n (Err v)
 ended_as n e = record { is = e; sound = tt; left = omega arith }
+
+-- what `?` passes on, where `ok_or` has found no value
+pub none_ends : {T A : Type 0} {o : Option T} {v w : Verdict} {r : Result A Verdict} → o ≡ None → ◌≡◌ {A = Result T Verdict} (Err w) (ok_or o v) → IsErrAnd r (λ u. u ≡ w) → r ≡ Err v
+none_ends {T} {v = v} {w} {r} i j k =
+    let p = err_from_is_err_and r k in
+    let e : ◌≡◌ {A = Result T Verdict} (Err w) (Err v) = rw i at j in
+    cc (p.1, p.2)
 
 -- the parts of a load, one after the other, as plans
 module _ (p : Place) where

@@ -1,6 +1,6 @@
 -- The branches of a load's definitions, each with the test that leads there.
 -- Assumes nothing.
-use Rattle.std.specs.Prelude.{◌≡◌, refl, Bool, true, false, ◌||◌, ◌∷◌, ℕ, eqb, ℤ, negsuc, neg_ℤ, ◌+ℤ◌, ◌-ℤ◌, ◌*ℤ◌}
+use Rattle.std.specs.Prelude.{◌≡◌, refl, Option, Bool, true, false, ◌||◌, ◌∷◌, ℕ, eqb, ℤ, negsuc, neg_ℤ, ◌+ℤ◌, ◌-ℤ◌, ◌*ℤ◌}
 use Rattle.std.proofs.Common.{sym, ap, ◌∙◌, le-ltb, lt-ltb, leb-true, leb-false}
 use Rattle.std.proofs.lemmas.Bool.{false≢true}
 use Rattle.std.proofs.Math.IntN.{pos}
@@ -19,7 +19,6 @@ use Rattle.plan.specs.Laws.{bind_assoc, more_nil}
 use Rattle.plan.specs.Ties.{wrapped_by}
 use Rattle.plan.specs.Scaled.{tile7, load_part, load_1cyc_tile, back, from_top, split_row, up_to_end, advance, load_1cyc}
 use Rattle.loads.specs.Comes.{times_comm}
-use Rattle.loads.specs.declared.types.Sum.{Sum}
 use Rattle.loads.specs.Coming.{sum_out, loadable_of, split_rows, split_from, split_width, rest_out, whole_out}
 
 -- an entry in front, and a refusal
@@ -108,10 +107,10 @@ module _ (z : Scaled) (src : Source) (rows : ℤ) where
   load_wraps t = rw (t, load_1cyc) (bind_assoc (from_top z src.remain (rows +ℤ pos z.bilerp) >> split_row z src.pointer (loadable_of z src)) _ _ ∙ bind_assoc (from_top z src.remain (rows +ℤ pos z.bilerp)) _ _)
 
 -- a sum's answer in its place
-pub sum_then : {A : Type 0} (s : Sum) (a : ℕ) (z : ℤ) (k : ℕ → Out A) → sum_out s ≡ source_address a z → (sum_out s >>= k) ≡ (source_address a z >>= k)
+pub sum_then : {A : Type 0} (s : Option ℕ) (a : ℕ) (z : ℤ) (k : ℕ → Out A) → sum_out s ≡ source_address a z → (sum_out s >>= k) ≡ (source_address a z >>= k)
 sum_then s a z k e = ap (λ (o : Out ℕ). o >>= k) e
 
-module _ (z : Scaled) (src : Source) (rows remain : ℤ) (s : Sum) (e : remain ≡ src.remain -ℤ rows) where
+module _ (z : Scaled) (src : Source) (rows remain : ℤ) (s : Option ℕ) (e : remain ≡ src.remain -ℤ rows) where
   pub advance_by_on : (bytes : ℤ) → bytes ≡ rows *ℤ pos z.stride → lt_z (pos 0) remain ≡ true → sum_out s ≡ source_address src.pointer bytes → (sum_out s >>= (λ p. yield (record { pointer = p; remain = remain }))) ≡ advance z src rows
   advance_by_on bytes b t h = sum_then s _ _ _ h ∙ rw (b, e, ← times_comm z.stride rows) (sym (advance_on z src rows (rw e at t)))
 

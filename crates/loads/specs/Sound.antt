@@ -1,6 +1,6 @@
 -- The ranges that a scaled walk keeps, so that no sum overflows, and how many entries are still to come at the most.
 -- Assumes nothing.
-use Rattle.std.specs.Prelude.{◌≡◌, ℕ, suc, ◌+◌, ◌-◌, ◌*◌, ◌/◌, ◌^◌, ◌≤◌, true, false, cond, eqb, ℤ, pos, neg_ℤ, ◌+ℤ◌, ◌-ℤ◌, ◌*ℤ◌, ◌≤ℤ◌, [], ◌∷◌}
+use Rattle.std.specs.Prelude.{◌≡◌, Result, Ok, Err, ℕ, suc, ◌+◌, ◌-◌, ◌*◌, ◌/◌, ◌^◌, ◌≤◌, true, false, cond, eqb, ℤ, pos, neg_ℤ, ◌+ℤ◌, ◌-ℤ◌, ◌*ℤ◌, ◌≤ℤ◌, [], ◌∷◌}
 use Rattle.std.specs.Int.Signed.{lt_z, le_z}
 use Rattle.signed.specs.Diff.{up, dn}
 use Rattle.signed.specs.Floor.{modulo}
@@ -10,7 +10,9 @@ use Rattle.measures.specs.Range.{Below, Within}
 use Rattle.plan.specs.declared.types.Scaled.{Scaled}
 use Rattle.plan.specs.declared.types.Source.{Source}
 use Rattle.plan.specs.declared.types.Walk.{Walk}
+use Rattle.object.specs.declared.types.Verdict.{Verdict}
 use Rattle.object.specs.declared.types.Verdict.TheVariants as verdict
+use Rattle.plan.specs.declared.types.Entry.{Entry}
 use Rattle.plan.specs.declared.types.Clip.{Clip}
 use Rattle.plan.specs.Next.{cons, ended}
 use Rattle.plan.specs.Out.{Out, Plan, emit}
@@ -27,16 +29,9 @@ use Rattle.loads.specs.declared.types.Turn.TheVariants as turn
 use Rattle.loads.specs.declared.types.Stage.{Stage}
 use Rattle.loads.specs.declared.types.Stage.TheVariants as stage
 use Rattle.loads.specs.declared.types.Place.{Place}
-use Rattle.loads.specs.declared.types.Reached.{Reached}
-use Rattle.loads.specs.declared.types.Reached.TheVariants as reached
-use Rattle.loads.specs.declared.types.Begun.{Begun}
-use Rattle.loads.specs.declared.types.Begun.TheVariants as begun
 use Rattle.loads.specs.declared.types.Split.{Split}
-use Rattle.loads.specs.declared.types.Loaded.{Loaded}
-use Rattle.loads.specs.declared.types.Loaded.TheVariants as loaded
-use Rattle.loads.specs.declared.types.ScaledNext.{ScaledNext}
-use Rattle.loads.specs.declared.types.ScaledNext.TheVariants as next
-use Rattle.loads.specs.Coming.{loadable_of, split_from, split_width, pass_from, after_part, due_walk, coming_reached}
+use Rattle.loads.specs.declared.types.Refused.{Refused}
+use Rattle.loads.specs.Coming.{Reached, loadable_of, split_from, split_width, pass_from, after_part, due_walk, coming_reached}
 
 -- a walk before a pass. Each pass lowers 64 × lines left − count / 16, and `remain` by 512 rows at the most: `low` ties the two together
 pub record SoundWalk (w : Walk) : Type 0 where
@@ -118,8 +113,8 @@ SoundAt stage.Size p = SoundStart p
 SoundAt stage.Rect p = SoundRect p
 
 abbrev pub SoundReached : Reached → Type 0
-SoundReached (reached.At s p) = SoundAt s p
-SoundReached (reached.Ended v) = Unit {0}
+SoundReached (Ok q) = SoundAt q.0 q.1
+SoundReached (Err v) = Unit {0}
 
 -- the entries that come after a part, its pass's rectangle included, at the most
 abbrev pub after_piece : Piece → ℕ
@@ -153,8 +148,8 @@ left_turn turn.Last p = 1 + left_pass p
 left_turn (turn.Pass d) p = 14 * up (due_walk d p).frame_remain
 
 abbrev pub left_reached : Reached → ℕ
-left_reached (reached.At s p) = left_at s p
-left_reached (reached.Ended v) = 0
+left_reached (Ok q) = left_at q.0 q.1
+left_reached (Err v) = 0
 
 -- r has just the plan to come, is sound, and gives at most n entries
 pub record Reaches (plan : Plan) (n : ℕ) (r : Reached) : Type 0 where
@@ -163,9 +158,9 @@ pub record Reaches (plan : Plan) (n : ℕ) (r : Reached) : Type 0 where
   pub left : left_reached r ≤ n
 
 -- a pass that has just the plan to come after the part that is given, and gives at most n entries; or the end
-abbrev pub Begins : Plan → ℕ → Begun → Type 0
-Begins plan n (begun.At k p) = SoundPass p × ((pass_from p (after_part k p) ≡ plan) × (after_piece k + left_pass p ≤ n))
-Begins plan n (begun.Ended v) = ended [] v ≡ plan
+abbrev pub Begins : Plan → ℕ → Result (Piece × Place) Verdict → Type 0
+Begins plan n (Ok q) = SoundPass q.1 × ((pass_from q.1 (after_part q.0 q.1) ≡ plan) × (after_piece q.0 + left_pass q.1 ≤ n))
+Begins plan n (Err v) = ended [] v ≡ plan
 
 -- the part after which a choice is made, and the test that leads to it: R 175, 184, 196, 212
 abbrev pub before : Choice → Piece
@@ -193,14 +188,14 @@ pub record Chose (k : Piece) (p : Place) (c : Choice) : Type 0 where
   pub meets : Meets c p
 
 -- a load's answer as a part of a plan
-abbrev pub loaded_out : Loaded → Out (Unit {0})
-loaded_out (loaded.Entry e) = emit e
-loaded_out (loaded.Refused e) = stop [] (e ∷ []) verdict.Address
+abbrev pub loaded_out : Result Entry Refused → Out (Unit {0})
+loaded_out (Ok e) = emit e
+loaded_out (Err r) = stop [] (r.0 ∷ []) verdict.Address
 
 -- what a step answers is the first of the plan, and what it reaches is the rest
-abbrev pub Gave : Plan → ℕ → ScaledNext → Type 0
-Gave plan n (next.Entry e r) = (plan ≡ cons e (coming_reached r)) × (SoundReached r × ((suc (left_reached r) ≤ n) × EntryIn e))
-Gave plan n (next.Refused e) = (plan ≡ ended (e ∷ []) verdict.Address) × Narrow e
+abbrev pub Gave : Plan → ℕ → Result (Entry × Reached) Refused → Type 0
+Gave plan n (Ok q) = (plan ≡ cons q.0 (coming_reached q.1)) × (SoundReached q.1 × ((suc (left_reached q.1) ≤ n) × EntryIn q.0))
+Gave plan n (Err r) = (plan ≡ ended (r.0 ∷ []) verdict.Address) × Narrow r.0
 
 -- a clipped frame that is not empty
 pub record ClipIn (c : Clip) : Type 0 where

@@ -1,12 +1,14 @@
--- Address sums by cases: in range, below 0, beyond 2^64 − 1.
+-- Address sums by cases: in range, below 0, beyond 2^64 − 1; and as the checked sums of `u64`.
 -- Assumes nothing.
-use Rattle.std.specs.Prelude.{◌≡◌, refl, Bool, true, false, ℕ, ◌^◌, ◌≤◌, ◌<◌, ltb, ℤ, pos, negsuc, ◌+ℤ◌, ◌<ℤ◌}
-use Rattle.std.proofs.Common.{ap, ◌∙◌, lt-ltb, le-ltb, arith}
+use Rattle.std.specs.Prelude.{◌≡◌, refl, Option, Some, None, SomeIff, Bool, true, false, ℕ, suc, ◌+◌, ◌-◌, ◌^◌, ◌≤◌, ◌<◌, ltb, ℤ, pos, negsuc, neg_ℤ, ◌+ℤ◌, ◌<ℤ◌, nat_abs}
+use Rattle.std.proofs.Common.{ap, ◌∙◌, sym, lt-ltb, le-ltb, arith}
+use Rattle.std.proofs.lemmas.Bool.{false≢true}
 use Rattle.std.specs.Int.Signed.{lt_z}
-use Rattle.signed.specs.Diff.{up, zarith}
+use Rattle.signed.specs.Diff.{up, zdiff, zarith}
 use Rattle.object.specs.declared.types.Verdict.TheVariants as verdict
 use Rattle.plan.specs.Out.{Out, yield, refuse}
 use Rattle.plan.specs.Load.{source_address}
+use Rattle.loads.specs.Coming.{sum_out}
 
 -- the sum as a function of its value
 abbrev by_sum : ℤ → Out ℕ
@@ -39,3 +41,21 @@ sum_beyond a n z e h = ap by_sum e ∙ beyond n h
 pub sum_below : (a : ℕ) (z : ℤ) → (pos a +ℤ z) <ℤ pos 0 → source_address a z ≡ refuse verdict.Address
 unfolding source_address
 sum_below a z h = below (pos a +ℤ z) h
+
+-- `checked_add` and `checked_sub`
+pub checked_sum : (a n : ℕ) (r : Option ℕ) → SomeIff r (a + n < 2 ^ 64) (a + n) → sum_out r ≡ source_address a (pos n)
+checked_sum a n None h = sym (sum_beyond a (a + n) (pos n) refl (omega arith))
+checked_sum a n (Some x) h = rw h.1 (sym (sum_in a (a + n) (pos n) refl h.0))
+
+pub checked_difference : (a n : ℕ) (r : Option ℕ) → a < 2 ^ 64 → SomeIff r (n ≤ a) (a - n) → sum_out r ≡ source_address a (neg_ℤ (pos n))
+checked_difference a n None f h = sym (sum_below a (neg_ℤ (pos n)) (simp zdiff (omega zarith)))
+checked_difference a n (Some x) f h = rw h.1 (sym (sum_in a (a - n) (neg_ℤ (pos n)) (simp zdiff (omega zarith)) (omega arith)))
+
+-- the same of an offset of either sign
+pub checked_on : (a : ℕ) (z : ℤ) (r : Option ℕ) → lt_z z (pos 0) ≡ false → SomeIff r (a + nat_abs z < 2 ^ 64) (a + nat_abs z) → sum_out r ≡ source_address a z
+checked_on a (pos n) r t h = checked_sum a n r h
+checked_on a (negsuc n) r t h = absurd (false≢true (sym t))
+
+pub checked_back : (a : ℕ) (z : ℤ) (r : Option ℕ) → a < 2 ^ 64 → lt_z z (pos 0) ≡ true → SomeIff r (nat_abs z ≤ a) (a - nat_abs z) → sum_out r ≡ source_address a z
+checked_back a (pos n) r f t h = absurd (omega (zarith, t))
+checked_back a (negsuc n) r f t h = checked_difference a (suc n) r f h

@@ -10,6 +10,5 @@ pub use load::{after_part, moved_on, whole_part};
 pub use rows::{less, plus, sum, times};
 pub use sums::{advance, forward, source_address};
 pub use types::{
-    Begun, Choice, Due, Loaded, Moved, Part, Piece, Place, Reached, ScaledNext, Split, Stage, Sum,
-    Turn,
+    Begun, Choice, Due, Part, Piece, Place, Reached, Refused, ScaledNext, Split, Stage, Turn,
 };

@@ -11,7 +11,7 @@ ghost use Rattle.loads.specs.declared.types.Piece.TheVariants.{Start, Top, Split
 
 use crate::rows::{difference, less, plus, sum, times};
 use crate::sums::{advance, source_address};
-use crate::types::{Choice, Moved, Part, Piece, Place, Reached, Split, Stage, Sum};
+use crate::types::{Choice, Part, Piece, Place, Reached, Split, Stage};
 use object::Verdict;
 use plan::{Scaled, Source};
 
@@ -35,7 +35,7 @@ fn enter(k: Piece, pointer: u64, rows: i64, destination: i64, width: i64, p: Pla
     ensures { Reaches (part_then k p pointer rows destination width) (3 + after_piece k + left_pass p) result }
 {
     if part_bad(rows, destination, width) {
-        return Reached::Ended(Verdict::Piece);
+        return Err(Verdict::Piece);
     }
     let part = Part {
         pointer,
@@ -56,7 +56,7 @@ fn enter(k: Piece, pointer: u64, rows: i64, destination: i64, width: i64, p: Pla
         next,
         piece: k,
     };
-    Reached::At(Stage::Tile, q)
+    Ok((Stage::Tile, q))
 }
 
 // The whole load in one part, over the tile that stands.
@@ -76,14 +76,13 @@ pub fn whole_part(p: Place) -> Part
 }
 
 // One row back, where a load must start at an even row.
-fn back(z: Scaled, odd: u64, pointer: u64) -> Sum
-    requires { SoundScaled z }
+fn back(z: Scaled, odd: u64, pointer: u64) -> Option<u64>
     ensures { sum_out result ≡ back_of z odd pointer }
 {
     if odd == 0 {
-        return Sum::At(pointer);
+        return Some(pointer);
     }
-    source_address(pointer, 0 - z.stride as i64)
+    pointer.checked_sub(z.stride)
 }
 
 // After the rows up to the image's end: the move, and the rectangle.
@@ -93,14 +92,10 @@ fn moved(p: Place) -> Reached
 {
     let w = p.walk;
     let source = w.source;
-    match advance(p.scaled, source, p.rows) {
-        Moved::Overflow => Reached::Ended(Verdict::Address),
-        Moved::To(next) => {
-            let mut q = p;
-            q.next = next;
-            Reached::At(Stage::Rect, q)
-        }
-    }
+    let next = advance(p.scaled, source, p.rows).ok_or(Verdict::Address)?;
+    let mut q = p;
+    q.next = next;
+    Ok((Stage::Rect, q))
 }
 
 // The move where no row wraps.
@@ -112,16 +107,11 @@ pub fn moved_on(p: Place) -> Reached
     let w = p.walk;
     let source = w.source;
     let rows = p.rows;
-    match source_address(source.pointer, times(rows, z.stride)) {
-        Sum::Overflow => Reached::Ended(Verdict::Address),
-        Sum::At(pointer) => {
-            let remain = difference(source.remain, rows);
-            let next = Source { pointer, remain };
-            let mut q = p;
-            q.next = next;
-            Reached::At(Stage::Rect, q)
-        }
-    }
+    let pointer = source_address(source.pointer, times(rows, z.stride)).ok_or(Verdict::Address)?;
+    let remain = difference(source.remain, rows);
+    let mut q = p;
+    q.next = Source { pointer, remain };
+    Ok((Stage::Rect, q))
 }
 
 // The rows before the image's last.
@@ -187,15 +177,9 @@ fn split_row(p: Place) -> Reached
     let source = w.source;
     let s = split(z, source);
     let loadable = less(source.remain, z.split);
-    let Sum::At(p1) = source_address(source.pointer, times(loadable, z.stride)) else {
-        return Reached::Ended(Verdict::Address);
-    };
-    let Sum::At(p1a) = back(z, s.odd, p1) else {
-        return Reached::Ended(Verdict::Address);
-    };
-    let Sum::At(p1b) = back(z, s.odd, z.address) else {
-        return Reached::Ended(Verdict::Address);
-    };
+    let p1 = source_address(source.pointer, times(loadable, z.stride)).ok_or(Verdict::Address)?;
+    let p1a = back(z, s.odd, p1).ok_or(Verdict::Address)?;
+    let p1b = back(z, s.odd, z.address).ok_or(Verdict::Address)?;
     split_b(p1b, p1a, s, p)
 }
 
@@ -210,13 +194,9 @@ fn from_top(lines: i64, p: Place) -> Reached
     let w = p.walk;
     let source = w.source;
     let rows = difference(lines, source.remain);
-    let Sum::At(first) = source_address(z.address, z.x_offset as i64) else {
-        return Reached::Ended(Verdict::Address);
-    };
+    let first = z.address.checked_add(z.x_offset).ok_or(Verdict::Address)?;
     let odd = signed::rem_euclid(source.remain, 2);
-    let Sum::At(pointer) = back(z, odd, first) else {
-        return Reached::Ended(Verdict::Address);
-    };
+    let pointer = back(z, odd, first).ok_or(Verdict::Address)?;
     let destination = times(less(source.remain, odd), z.line);
     enter(
         Piece::Top,
@@ -246,9 +226,9 @@ fn whole(p: Place) -> Reached
 {
     let part = whole_part(p);
     if part_bad(part.rows, 0, part.width) {
-        return Reached::Ended(Verdict::Piece);
+        return Err(Verdict::Piece);
     }
-    Reached::At(Stage::Whole, p)
+    Ok((Stage::Whole, p))
 }
 
 // The rows before the image's last; where there are none, the tile alone.
@@ -322,7 +302,7 @@ pub fn after_part(k: Piece, p: Place) -> Reached
         Choice::SplitB => split_row(p),
         Choice::SplitA => split_a(p),
         Choice::Rest => rest(p),
-        Choice::Last => Reached::At(Stage::Last, p),
+        Choice::Last => Ok((Stage::Last, p)),
         Choice::Move => moved(p),
     }
 }

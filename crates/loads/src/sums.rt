@@ -7,55 +7,39 @@ ghost use Rattle.plan.specs.Scaled.{advance as advance_of};
 ghost use Rattle.loads.specs.Coming.{sum_out, moved_out};
 
 use crate::rows::{difference, less, plus, times};
-use crate::types::{Moved, Sum};
 use plan::{Scaled, Source};
 
-// `source_address`: an address and an offset of either sign.
-pub fn source_address(address: u64, offset: i64) -> Sum
-    requires { Within 62 offset }
+// `source_address`: an address and an offset of either sign. `checked_add_signed` took longer: it makes the offset's size before it looks at the sign.
+pub fn source_address(address: u64, offset: i64) -> Option<u64>
     ensures { sum_out result ≡ source_address address offset }
 {
     if offset < 0 {
-        let back = (0 - offset) as u64;
-        if back <= address {
-            Sum::At(address - back)
-        } else {
-            Sum::Overflow
-        }
+        address.checked_sub(offset.unsigned_abs())
     } else {
-        let on = offset as u64;
-        if on <= 0xffff_ffff_ffff_ffff - address {
-            Sum::At(address + on)
-        } else {
-            Sum::Overflow
-        }
+        address.checked_add(offset as u64)
     }
 }
 
 // The source after rows that were drawn or passed over: further on, or from the image's top again.
-pub fn advance(z: Scaled, source: Source, rows: i64) -> Moved
+pub fn advance(z: Scaled, source: Source, rows: i64) -> Option<Source>
     requires sound_scaled { SoundScaled z }
     requires within { (Within 44 source.remain) × Within 44 rows }
     ensures { moved_out result ≡ advance_of z source rows }
 {
     let remain = difference(source.remain, rows);
     if 0 < remain {
-        let Sum::At(pointer) = source_address(source.pointer, times(rows, z.stride)) else {
-            return Moved::Overflow;
-        };
-        return Moved::To(Source { pointer, remain });
+        let pointer = source_address(source.pointer, times(rows, z.stride))?;
+        return Some(Source { pointer, remain });
     }
     let past = difference(rows, source.remain);
     let back = plus(times(past, z.stride), z.x_offset);
-    let Sum::At(pointer) = source_address(z.address, back) else {
-        return Moved::Overflow;
-    };
+    let pointer = source_address(z.address, back)?;
     let remain = plus(remain, z.source_rows);
-    Moved::To(Source { pointer, remain })
+    Some(Source { pointer, remain })
 }
 
 // The same after a whole strip, whose rows are not negative: where the image goes on, one sum and one test.
-pub fn forward(z: Scaled, source: Source) -> Moved
+pub fn forward(z: Scaled, source: Source) -> Option<Source>
     requires sound_scaled { SoundScaled z }
     requires within { Within 44 source.remain }
     ensures { moved_out result ≡ advance_of z source (pos z.image_rows) }
@@ -63,11 +47,8 @@ pub fn forward(z: Scaled, source: Source) -> Moved
     let remain = less(source.remain, z.image_rows);
     if 0 < remain {
         let on = z.image_rows * z.stride;
-        if 0xffff_ffff_ffff_ffff - source.pointer < on {
-            return Moved::Overflow;
-        }
-        let pointer = source.pointer + on;
-        return Moved::To(Source { pointer, remain });
+        let pointer = source.pointer.checked_add(on)?;
+        return Some(Source { pointer, remain });
     }
     advance(z, source, z.image_rows as i64)
 }

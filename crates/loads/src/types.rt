@@ -2,20 +2,6 @@
 use object::Verdict;
 use plan::{Entry, Scaled, Source, Walk};
 
-// An address sum.
-#[derive(Clone, Copy)]
-pub enum Sum {
-    At(u64),
-    Overflow,
-}
-
-// Where the rows after a pass come from.
-#[derive(Clone, Copy)]
-pub enum Moved {
-    To(Source),
-    Overflow,
-}
-
 // One part of a pass's load: `load_1cyc_tile`'s numbers.
 #[derive(Clone, Copy)]
 pub struct Part {
@@ -98,29 +84,15 @@ pub struct Place {
     pub piece: Piece,
 }
 
-#[derive(Clone, Copy)]
-pub enum Reached {
-    At(Stage, Place),
-    Ended(Verdict),
-}
+// Where the plan stands, or its end.
+pub type Reached = Result<(Stage, Place), Verdict>;
 
 // A pass and the part that is given of its load, or the plan's end.
-#[derive(Clone, Copy)]
-pub enum Begun {
-    At(Piece, Place),
-    Ended(Verdict),
-}
+pub type Begun = Result<(Piece, Place), Verdict>;
 
-// The entry of a load, or the size that a refused load has set.
+// A load that is refused, with the size that it has set.
 #[derive(Clone, Copy)]
-pub enum Loaded {
-    Entry(Entry),
-    Refused(Entry),
-}
+pub struct Refused(pub Entry);
 
-// What one step answers: an entry and where the plan stands then; or a refused load, with the size that it has set.
-#[derive(Clone, Copy)]
-pub enum ScaledNext {
-    Entry(Entry, Reached),
-    Refused(Entry),
-}
+// What one step answers: an entry and where the plan stands then, or a refused load.
+pub type ScaledNext = Result<(Entry, Reached), Refused>;

@@ -1,6 +1,6 @@
 -- What each stage gives: the entry is the first of what is to come, and what is reached is the rest.
 -- Assumes nothing.
-use Rattle.std.specs.Prelude.{◌≡◌, refl, [], ◌∷◌, ℕ, suc, ◌+◌, ◌-◌, ◌*◌, ◌≤◌, ◌<◌, Bool, true, false, cond, eqb, ℤ, negsuc, ◌-ℤ◌, ◌*ℤ◌, ◌≤ℤ◌, Option, Some, None}
+use Rattle.std.specs.Prelude.{◌≡◌, refl, Ok, Err, Option, Some, None, [], ◌∷◌, ℕ, suc, ◌+◌, ◌-◌, ◌*◌, ◌≤◌, ◌<◌, Bool, true, false, cond, eqb, ℤ, negsuc, ◌-ℤ◌, ◌*ℤ◌, ◌≤ℤ◌}
 use Rattle.std.proofs.Common.{sym, subst, ◌∙◌, lit<, lit≤}
 use Rattle.std.proofs.Math.Path.{ap}
 use native.Mathlib.Omega.{arith}
@@ -34,10 +34,8 @@ use Rattle.loads.specs.declared.types.Turn.{Turn}
 use Rattle.loads.specs.declared.types.Turn.TheVariants as turn
 use Rattle.loads.specs.declared.types.Stage.TheVariants as stage
 use Rattle.loads.specs.declared.types.Place.{Place}
-use Rattle.loads.specs.declared.types.Reached.{Reached}
-use Rattle.loads.specs.declared.types.Reached.TheVariants as reached
-use Rattle.loads.specs.declared.types.ScaledNext.TheVariants as next
-use Rattle.loads.specs.Coming.{due_stage, stage_of, passes_of, piece_out, drawn, pass_from, tile0, image_of, part_out, rows_out, whole_part, after_part, after_whole, due_entry, due_walk, turn_out, after_turn, coming_scaled}
+use Rattle.loads.specs.declared.types.Refused.{Refused}
+use Rattle.loads.specs.Coming.{Reached, due_stage, stage_of, passes_of, piece_out, drawn, pass_from, tile0, image_of, part_out, rows_out, whole_part, after_part, after_whole, due_entry, due_walk, turn_out, after_turn, coming_scaled}
 use Rattle.loads.specs.Loads.{emit_first, emit_plan, then_assoc, after_yield, after_refuse}
 use Rattle.loads.specs.Sound.{SoundWalk, SoundPass, SoundPiece, SoundRect, SoundStart, ClipIn, SoundAt, Reaches, Gave, left_at, left_turn, left_reached, left_pass, after_piece}
 use Rattle.loads.specs.Enter.{ended_as}
@@ -151,59 +149,59 @@ module _ (p : Place) (q : Part) (o : Out Source) where
   unfolding load_part
   image_first = ap (pass_from p) (then_assoc (emit (image_of p.scaled q.pointer)) (rows_out p.scaled q) o) ∙ pass_first p (image_of p.scaled q.pointer) (rows_out p.scaled q >> o)
 
-  load_first : {n m : ℕ} (e : Entry) (r : Reached) → suc n ≤ m → emit e ≡ rows_out p.scaled q → Reaches (pass_from p o) n r → Gave (pass_from p (rows_out p.scaled q >> o)) m (next.Entry e r)
+  load_first : {n m : ℕ} (e : Entry) (r : Reached) → suc n ≤ m → emit e ≡ rows_out p.scaled q → Reaches (pass_from p o) n r → Gave (pass_from p (rows_out p.scaled q >> o)) m (Ok (e, r))
   load_first e r h i g = let l = g.left in (rw (← i) (pass_first p e o) ∙ ap (cons e) (sym g.is), (g.sound, (omega arith, load_in p.scaled q.pointer q.rows q.width e i)))
 
   load_refused : (e : Entry) → stop [] (e ∷ []) verdict.Address ≡ rows_out p.scaled q → (pass_from p (rows_out p.scaled q >> o) ≡ ended (e ∷ []) verdict.Address) × Narrow e
   load_refused e i = (rw (← i), subst FirstNarrow (sym i) (load_narrow p.scaled q.pointer q.rows q.width))
 
 module _ (p : Place) where
-  pub give_first : (e : Entry) → e ≡ tile7 p.scaled (pos 0) → SoundStart p → Gave (coming_scaled stage.First p) (left_at stage.First p) (next.Entry e (reached.At stage.Second p))
+  pub give_first : (e : Entry) → e ≡ tile7 p.scaled (pos 0) → SoundStart p → Gave (coming_scaled stage.First p) (left_at stage.First p) (Ok (e, Ok (stage.Second, p)))
   unfolding coming_scaled
   give_first e i h = (rw i (emit_plan (tile7 p.scaled (pos 0)) (emit (tile0 p.scaled) >> (emit (Size 0 0 0 0 0) >> passes_of p.scaled p.walk))), (h, (omega arith, rw i (tile7_in p.scaled (pos 0)))))
 
-  pub give_second : (e : Entry) → e ≡ tile0 p.scaled → SoundStart p → Gave (coming_scaled stage.Second p) (left_at stage.Second p) (next.Entry e (reached.At stage.Size p))
+  pub give_second : (e : Entry) → e ≡ tile0 p.scaled → SoundStart p → Gave (coming_scaled stage.Second p) (left_at stage.Second p) (Ok (e, Ok (stage.Size, p)))
   unfolding coming_scaled
   give_second e i h = (rw i (emit_plan (tile0 p.scaled) (emit (Size 0 0 0 0 0) >> passes_of p.scaled p.walk)), (h, (omega arith, rw i (tile0_in p.scaled h.scaled))))
 
-  give_size : (r : Reached) → Reaches (plan_out (passes_of p.scaled p.walk)) (14 * up p.walk.frame_remain) r → Gave (coming_scaled stage.Size p) (left_at stage.Size p) (next.Entry (Size 0 0 0 0 0) r)
+  give_size : (r : Reached) → Reaches (plan_out (passes_of p.scaled p.walk)) (14 * up p.walk.frame_remain) r → Gave (coming_scaled stage.Size p) (left_at stage.Size p) (Ok (Size 0 0 0 0 0, r))
   unfolding coming_scaled
   give_size r g = let l = g.left in (emit_plan (Size 0 0 0 0 0) (passes_of p.scaled p.walk) ∙ ap (cons (Size 0 0 0 0 0)) (sym g.is), (g.sound, (omega arith, plain_in)))
 
-  pub give_whole : (e : Entry) → e ≡ image_of p.scaled p.walk.source.pointer → SoundPass p → Gave (coming_scaled stage.Whole p) (left_at stage.Whole p) (next.Entry e (reached.At stage.WholeLoad p))
+  pub give_whole : (e : Entry) → e ≡ image_of p.scaled p.walk.source.pointer → SoundPass p → Gave (coming_scaled stage.Whole p) (left_at stage.Whole p) (Ok (e, Ok (stage.WholeLoad, p)))
   unfolding coming_scaled
   give_whole e i h = (rw i (image_first p (whole_part p) (after_whole p)), (h, (omega arith, rw i (image_in p.scaled p.walk.source.pointer))))
 
-  pub give_whole_load : (e : Entry) (r : Reached) → emit e ≡ rows_out p.scaled (whole_part p) → Reaches (pass_from p (after_whole p)) (1 + left_pass p) r → Gave (coming_scaled stage.WholeLoad p) (left_at stage.WholeLoad p) (next.Entry e r)
+  pub give_whole_load : (e : Entry) (r : Reached) → emit e ≡ rows_out p.scaled (whole_part p) → Reaches (pass_from p (after_whole p)) (1 + left_pass p) r → Gave (coming_scaled stage.WholeLoad p) (left_at stage.WholeLoad p) (Ok (e, r))
   unfolding coming_scaled
   give_whole_load e r i g = load_first p (whole_part p) (after_whole p) e r (omega arith) i g
 
-  pub refuse_whole : (e : Entry) → stop [] (e ∷ []) verdict.Address ≡ rows_out p.scaled (whole_part p) → Gave (coming_scaled stage.WholeLoad p) (left_at stage.WholeLoad p) (next.Refused e)
+  pub refuse_whole : (s : Refused) → stop [] (s.0 ∷ []) verdict.Address ≡ rows_out p.scaled (whole_part p) → Gave (coming_scaled stage.WholeLoad p) (left_at stage.WholeLoad p) (Err s)
   unfolding coming_scaled
-  refuse_whole e i = load_refused p (whole_part p) (after_whole p) e i
+  refuse_whole s i = load_refused p (whole_part p) (after_whole p) s.0 i
 
-  pub give_tile : (e : Entry) → e ≡ tile7 p.scaled p.part.destination → SoundPiece p → Gave (coming_scaled stage.Tile p) (left_at stage.Tile p) (next.Entry e (reached.At stage.Image p))
+  pub give_tile : (e : Entry) → e ≡ tile7 p.scaled p.part.destination → SoundPiece p → Gave (coming_scaled stage.Tile p) (left_at stage.Tile p) (Ok (e, Ok (stage.Image, p)))
   unfolding coming_scaled
   give_tile e i h = (rw i (pass_first p (tile7 p.scaled p.part.destination) (part_out p.scaled p.part >> after_part p.piece p)), (h, (omega arith, rw i (tile7_in p.scaled p.part.destination))))
 
-  pub give_image : (e : Entry) → e ≡ image_of p.scaled p.part.pointer → SoundPiece p → Gave (coming_scaled stage.Image p) (left_at stage.Image p) (next.Entry e (reached.At stage.Load p))
+  pub give_image : (e : Entry) → e ≡ image_of p.scaled p.part.pointer → SoundPiece p → Gave (coming_scaled stage.Image p) (left_at stage.Image p) (Ok (e, Ok (stage.Load, p)))
   unfolding coming_scaled
   give_image e i h = (rw i (image_first p p.part (after_part p.piece p)), (h, (omega arith, rw i (image_in p.scaled p.part.pointer))))
 
-  give_load : (e : Entry) (r : Reached) → emit e ≡ rows_out p.scaled p.part → Reaches (pass_from p (after_part p.piece p)) (after_piece p.piece + left_pass p) r → Gave (coming_scaled stage.Load p) (left_at stage.Load p) (next.Entry e r)
+  give_load : (e : Entry) (r : Reached) → emit e ≡ rows_out p.scaled p.part → Reaches (pass_from p (after_part p.piece p)) (after_piece p.piece + left_pass p) r → Gave (coming_scaled stage.Load p) (left_at stage.Load p) (Ok (e, r))
   unfolding coming_scaled
   give_load e r i g = load_first p p.part (after_part p.piece p) e r (omega arith) i g
 
-  refuse_load : (e : Entry) → stop [] (e ∷ []) verdict.Address ≡ rows_out p.scaled p.part → Gave (coming_scaled stage.Load p) (left_at stage.Load p) (next.Refused e)
+  refuse_load : (s : Refused) → stop [] (s.0 ∷ []) verdict.Address ≡ rows_out p.scaled p.part → Gave (coming_scaled stage.Load p) (left_at stage.Load p) (Err s)
   unfolding coming_scaled
-  refuse_load e i = load_refused p p.part (after_part p.piece p) e i
+  refuse_load s i = load_refused p p.part (after_part p.piece p) s.0 i
 
-  give_last : (e : Entry) (r : Reached) → e ≡ tile7 p.scaled (pos 0) → Reaches (pass_from p (after_part piece.Rest p)) (1 + left_pass p) r → Gave (coming_scaled stage.Last p) (left_at stage.Last p) (next.Entry e r)
+  give_last : (e : Entry) (r : Reached) → e ≡ tile7 p.scaled (pos 0) → Reaches (pass_from p (after_part piece.Rest p)) (1 + left_pass p) r → Gave (coming_scaled stage.Last p) (left_at stage.Last p) (Ok (e, r))
   unfolding coming_scaled piece_out
   give_last e r i g = let l = g.left in (ap (λ (x : Entry). pass_from p (emit x >> advance p.scaled p.walk.source p.rows)) (sym i) ∙ pass_first p e (advance p.scaled p.walk.source p.rows) ∙ ap (cons e) (sym g.is), (g.sound, (omega arith, rw i (tile7_in p.scaled (pos 0)))))
 
   give_rect : (e : Entry) (n : Walk) (r : Reached) → e ≡ rect_of p.scaled p.walk p.lines → n ≡ after_draw p.scaled p.walk (draw_of p.walk) p.lines p.next → SoundRect p
-      → Reaches (plan_out (passes_of p.scaled n)) (14 * up n.frame_remain) r → Gave (coming_scaled stage.Rect p) (left_at stage.Rect p) (next.Entry e r)
+      → Reaches (plan_out (passes_of p.scaled n)) (14 * up n.frame_remain) r → Gave (coming_scaled stage.Rect p) (left_at stage.Rect p) (Ok (e, r))
   unfolding coming_scaled drawn
   give_rect e n r i j h g =
       let l = g.left in
@@ -227,20 +225,20 @@ module _ (p : Place) where
 
   -- the size or the rectangle, and the pass after it
   give_pass : (d : Due) (e : Entry) (n : Walk) (r : Reached) → e ≡ due_entry d p → n ≡ due_walk d p → SoundAt (due_stage d) p → Reaches (plan_out (passes_of p.scaled n)) (14 * up n.frame_remain) r
-      → Gave (coming_scaled (due_stage d) p) (left_at (due_stage d) p) (next.Entry e r)
+      → Gave (coming_scaled (due_stage d) p) (left_at (due_stage d) p) (Ok (e, r))
   give_pass due.Size e n r i j h g = rw i (give_size r (rw j at g))
   give_pass due.Rect e n r i j h g = give_rect e n r i j h g
 
   -- a turn's entry, and what comes after it
-  pub give_turn : (t : Turn) (e : Entry) (r : Reached) → SoundAt (stage_of t) p → emit e ≡ turn_out t p → Reaches (after_turn t p) (left_turn t p) r → Gave (coming_scaled (stage_of t) p) (left_at (stage_of t) p) (next.Entry e r)
+  pub give_turn : (t : Turn) (e : Entry) (r : Reached) → SoundAt (stage_of t) p → emit e ≡ turn_out t p → Reaches (after_turn t p) (left_turn t p) r → Gave (coming_scaled (stage_of t) p) (left_at (stage_of t) p) (Ok (e, r))
   give_turn turn.Load e r h i g = give_load e r i g
   give_turn turn.Last e r h i g = give_last e r (cc) g
   give_turn (turn.Pass d) e r h i g = give_pass d e (due_walk d p) r (cc) refl h g
 
-  pub refuse_turn : (t : Turn) (e : Entry) → stop [] (e ∷ []) verdict.Address ≡ turn_out t p → Gave (coming_scaled (stage_of t) p) (left_at (stage_of t) p) (next.Refused e)
-  refuse_turn turn.Load e i = refuse_load e i
-  refuse_turn turn.Last e i = absurd (never i)
-  refuse_turn (turn.Pass d) e i = absurd (never i)
+  pub refuse_turn : (t : Turn) (s : Refused) → stop [] (s.0 ∷ []) verdict.Address ≡ turn_out t p → Gave (coming_scaled (stage_of t) p) (left_at (stage_of t) p) (Err s)
+  refuse_turn turn.Load s i = refuse_load s i
+  refuse_turn turn.Last s i = absurd (never i)
+  refuse_turn (turn.Pass d) s i = absurd (never i)
 
 three : (a b c : Entry) (o : Out (Unit {0})) → (emit a >> emit b >> emit c >> o) ≡ (emit a >> (emit b >> (emit c >> o)))
 three a b c (go es u) = refl
@@ -273,7 +271,7 @@ module _ (z : Scaled) (c : Clip) (f : First) (zs : SoundScaled z) (fs : SoundFir
 
   -- R 321–352: three entries, then passes
   module _ (p : Place) (pointer : ℕ) (iz : p.scaled ≡ z) (iw : p.walk ≡ first_pass z c f pointer) (e : yield pointer ≡ source_address z.address (pos (z.stride * f.image_row + z.x_offset))) where
-    pub start_at_lem : Reaches (plan_out (scaled_plan z c f)) 16384 (reached.At stage.First p)
+    pub start_at_lem : Reaches (plan_out (scaled_plan z c f)) 16384 (Ok (stage.First, p))
     unfolding coming_scaled scaled_plan passes_of
     start_at_lem =
         record {
@@ -282,6 +280,6 @@ module _ (z : Scaled) (c : Clip) (f : First) (zs : SoundScaled z) (fs : SoundFir
           left = rw iw (omega (arith, cs.height));
         }
 
-  pub start_refused : refuse verdict.Address ≡ source_address z.address (pos (z.stride * f.image_row + z.x_offset)) → Reaches (plan_out (scaled_plan z c f)) 16384 (reached.Ended verdict.Address)
+  pub start_refused : refuse verdict.Address ≡ source_address z.address (pos (z.stride * f.image_row + z.x_offset)) → Reaches (plan_out (scaled_plan z c f)) 16384 (Err verdict.Address)
   unfolding scaled_plan
   start_refused e = ended_as 16384 (sym (ap plan_out (after_refuse (source_address z.address (pos (z.stride * f.image_row + z.x_offset))) verdict.Address _ e)))

@@ -7,8 +7,8 @@ ghost use Rattle.loads.specs.Coming.{due_entry, due_walk, due_stage, stage_of, t
 ghost use Rattle.loads.specs.Sound.{ClipIn, SoundAt, left_at, left_turn, Reaches, Begins, Gave, loaded_out};
 
 use loads::{
-    Begun, Due, Loaded, Part, Piece, Place, Reached, ScaledNext, Stage, Sum, Turn, after_part,
-    less, moved_on, source_address, whole_part,
+    Begun, Due, Part, Piece, Place, Reached, Refused, ScaledNext, Stage, Turn, after_part, less,
+    moved_on, whole_part,
 };
 use object::Verdict;
 use plan::{Clip, Entry, First, Scaled, Source, Walk};
@@ -43,14 +43,14 @@ fn due_walk(due: Due, p: Place) -> Walk
 }
 
 // The entry of a turn; only a load may be refused.
-fn turn_entry(turn: Turn, p: Place) -> Loaded
+fn turn_entry(turn: Turn, p: Place) -> Result<Entry, Refused>
     requires { SoundAt (stage_of turn) p }
     ensures { loaded_out result ≡ turn_out turn p }
 {
     match turn {
         Turn::Load => load(p.scaled, p.part),
-        Turn::Last => Loaded::Entry(tile7(p.scaled, 0)),
-        Turn::Pass(due) => Loaded::Entry(due_entry(due, p)),
+        Turn::Last => Ok(tile7(p.scaled, 0)),
+        Turn::Pass(due) => Ok(due_entry(due, p)),
     }
 }
 
@@ -60,11 +60,8 @@ fn begun(turn: Turn, p: Place) -> Begun
     ensures { Begins (after_turn turn p) (left_turn turn p) result }
 {
     match turn {
-        Turn::Load => {
-            let k = p.piece;
-            Begun::At(k, p)
-        }
-        Turn::Last => Begun::At(Piece::Rest, p),
+        Turn::Load => Ok((p.piece, p)),
+        Turn::Last => Ok((Piece::Rest, p)),
         Turn::Pass(due) => next_pass(due_walk(due, p), p),
     }
 }
@@ -74,10 +71,8 @@ fn turned(turn: Turn, p: Place) -> Reached
     requires { SoundAt (stage_of turn) p }
     ensures { Reaches (after_turn turn p) (left_turn turn p) result }
 {
-    match begun(turn, p) {
-        Begun::At(k, q) => after_part(k, q),
-        Begun::Ended(verdict) => Reached::Ended(verdict),
-    }
+    let (k, q) = begun(turn, p)?;
+    after_part(k, q)
 }
 
 // The entry of a turn, and what comes after it unless its load is refused.
@@ -85,10 +80,8 @@ fn turn_step(turn: Turn, p: Place) -> ScaledNext
     requires { SoundAt (stage_of turn) p }
     ensures { Gave (coming_scaled (stage_of turn) p) (left_at (stage_of turn) p) result }
 {
-    match turn_entry(turn, p) {
-        Loaded::Entry(entry) => ScaledNext::Entry(entry, turned(turn, p)),
-        Loaded::Refused(size) => ScaledNext::Refused(size),
-    }
+    let entry = turn_entry(turn, p)?;
+    Ok((entry, turned(turn, p)))
 }
 
 // The load of a pass where no row wraps, and what comes after it unless it is refused.
@@ -96,10 +89,8 @@ fn whole_step(p: Place) -> ScaledNext
     requires { SoundAt Stage.WholeLoad p }
     ensures { Gave (coming_scaled Stage.WholeLoad p) (left_at Stage.WholeLoad p) result }
 {
-    match load(p.scaled, whole_part(p)) {
-        Loaded::Entry(entry) => ScaledNext::Entry(entry, moved_on(p)),
-        Loaded::Refused(size) => ScaledNext::Refused(size),
-    }
+    let entry = load(p.scaled, whole_part(p))?;
+    Ok((entry, moved_on(p)))
 }
 
 // What comes next of a scaled plan. The stages of a turn meet in one call of `turn_step`, so that the compiler inlines it.
@@ -109,16 +100,16 @@ pub fn scaled_next(stage: Stage, p: Place) -> ScaledNext
 {
     let turn = match stage {
         Stage::First => {
-            return ScaledNext::Entry(tile7(p.scaled, 0), Reached::At(Stage::Second, p));
+            return Ok((tile7(p.scaled, 0), Ok((Stage::Second, p))));
         }
         Stage::Second => {
-            return ScaledNext::Entry(tile0(p.scaled), Reached::At(Stage::Size, p));
+            return Ok((tile0(p.scaled), Ok((Stage::Size, p))));
         }
         Stage::Whole => {
             let w = p.walk;
             let source = w.source;
             let entry = image(p.scaled, source.pointer);
-            return ScaledNext::Entry(entry, Reached::At(Stage::WholeLoad, p));
+            return Ok((entry, Ok((Stage::WholeLoad, p))));
         }
         Stage::WholeLoad => {
             return whole_step(p);
@@ -126,12 +117,12 @@ pub fn scaled_next(stage: Stage, p: Place) -> ScaledNext
         Stage::Tile => {
             let q = p.part;
             let entry = tile7(p.scaled, q.destination);
-            return ScaledNext::Entry(entry, Reached::At(Stage::Image, p));
+            return Ok((entry, Ok((Stage::Image, p))));
         }
         Stage::Image => {
             let q = p.part;
             let entry = image(p.scaled, q.pointer);
-            return ScaledNext::Entry(entry, Reached::At(Stage::Load, p));
+            return Ok((entry, Ok((Stage::Load, p))));
         }
         Stage::Load => Turn::Load,
         Stage::Last => Turn::Last,
@@ -148,9 +139,7 @@ pub fn scaled_start(z: Scaled, c: Clip, f: First) -> Reached
     ensures { Reaches (plan_out (scaled_plan z c f)) 16384 result }
 {
     let offset = z.stride * f.image_row + z.x_offset;
-    let Sum::At(pointer) = source_address(z.address, offset as i64) else {
-        return Reached::Ended(Verdict::Address);
-    };
+    let pointer = z.address.checked_add(offset).ok_or(Verdict::Address)?;
     let remain = less(z.source_rows as i64, f.image_row);
     let source = Source { pointer, remain };
     let left = measures::texels(c.height) as i64;
@@ -180,5 +169,5 @@ pub fn scaled_start(z: Scaled, c: Clip, f: First) -> Reached
         next: source,
         piece: Piece::Start,
     };
-    Reached::At(Stage::First, place)
+    Ok((Stage::First, place))
 }

@@ -1,6 +1,6 @@
 -- From one step of a course to one step of the planner: the counts and the bank go with the entry.
 -- Assumes nothing.
-use Rattle.std.specs.Prelude.{◌≡◌, refl, List, [], ◌∷◌, ℕ, suc, ◌≤◌, ◌<◌, length, drop}
+use Rattle.std.specs.Prelude.{◌≡◌, refl, Ok, Err, List, [], ◌∷◌, ℕ, suc, ◌≤◌, ◌<◌, length, drop}
 use Rattle.std.proofs.Math.Path.{sym, ap}
 use Rattle.std.proofs.Common.{◌∙◌}
 use native.Mathlib.Omega.{arith}
@@ -25,10 +25,7 @@ use Rattle.copy.specs.Coming.{coming_copy, copy_follows}
 use Rattle.copy.specs.Kept.{left_copy, copy_kept}
 use Rattle.loads.specs.declared.types.Stage as scaled
 use Rattle.loads.specs.declared.types.Place as scaled_place
-use Rattle.loads.specs.declared.types.Reached.{Reached}
-use Rattle.loads.specs.declared.types.Reached.TheVariants as reached
-use Rattle.loads.specs.declared.types.ScaledNext.TheVariants as gave
-use Rattle.loads.specs.Coming.{coming_scaled, coming_reached}
+use Rattle.loads.specs.Coming.{Reached, coming_scaled, coming_reached}
 use Rattle.loads.specs.Sound.{SoundReached, left_at, left_reached, Gave}
 use Rattle.words.specs.declared.count.Counts.{Counts}
 use Rattle.words.specs.Counts.{counted_of, counted_all, end_with}
@@ -141,18 +138,18 @@ module _ (s : Stage) (p : Place) (h : walk.SoundAt s p) where
 
 -- what the walk reaches, as a course
 reached_is : (r : Reached) → coming_course (course_of r) ≡ coming_reached r
-reached_is (reached.At s p) = refl
-reached_is (reached.Ended v) = refl
+reached_is (Ok q) = refl
+reached_is (Err v) = refl
 
 reached_sound : (r : Reached) → SoundReached r → SoundCourse (course_of r)
-reached_sound (reached.At s p) h = h
-reached_sound (reached.Ended v) h = tt
+reached_sound (Ok q) h = h
+reached_sound (Err v) h = tt
 
 reached_left : (r : Reached) (n : ℕ) → suc (left_reached r) ≤ n → suc (left_course (course_of r)) ≤ n
-reached_left (reached.At s p) n h = h
-reached_left (reached.Ended v) n h = h
+reached_left (Ok q) n h = h
+reached_left (Err v) n h = h
 
-pub step_scaled : (s : scaled.Stage) (p : scaled_place.Place) (n : Counts) (e : Entry) (r : Reached) → Gave (coming_scaled s p) (left_at s p) (gave.Entry e r) → Sound (planner_at (course.Scaled s p) n)
+pub step_scaled : (s : scaled.Stage) (p : scaled_place.Place) (n : Counts) (e : Entry) (r : Reached) → Gave (coming_scaled s p) (left_at s p) (Ok (e, r)) → Sound (planner_at (course.Scaled s p) n)
     → StepGives (planner_at (course.Scaled s p) n) (give_of (course_of r) n e)
 step_scaled s p n e r g h =
     step_given (course.Scaled s p) (course_of r) n e (g.0 ∙ ap (cons e) (sym (reached_is r))) g.1.1.1 (reached_sound r g.1.0) (reached_left r (left_at s p) g.1.1.0) h

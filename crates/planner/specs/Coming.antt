@@ -1,6 +1,6 @@
 -- What a planner has still to come: the rest of its plan, and the end with the counts so far. A step's promise is that it answers the first of that and leaves the rest.
 -- Assumes nothing.
-use Rattle.std.specs.Prelude.{◌≡◌, List, [], ◌∷◌, ℕ, ◌+◌, ◌^◌, ◌≤◌}
+use Rattle.std.specs.Prelude.{◌≡◌, Ok, Err, List, [], ◌∷◌, ℕ, ◌+◌, ◌^◌, ◌≤◌}
 use Rattle.object.specs.declared.types.ObjBg.{ObjBg}
 use Rattle.object.specs.declared.types.Scissor.{Scissor}
 use Rattle.object.specs.declared.types.Verdict.{Verdict}
@@ -20,9 +20,7 @@ use Rattle.copy.specs.declared.types.Stage.TheVariants as stage
 use Rattle.copy.specs.Coming.{coming_copy}
 use Rattle.copy.specs.Walk as walk
 use Rattle.copy.specs.Kept.{left_copy}
-use Rattle.loads.specs.declared.types.Reached.{Reached}
-use Rattle.loads.specs.declared.types.Reached.TheVariants as reached
-use Rattle.loads.specs.Coming.{coming_scaled}
+use Rattle.loads.specs.Coming.{Reached, coming_scaled}
 use Rattle.loads.specs.Sound.{SoundAt, left_at}
 use Rattle.words.specs.declared.count.Counts.{Counts}
 use Rattle.words.specs.Counts.{Countable, zero_counts, counted_of, counted_all, end_with}
@@ -120,8 +118,8 @@ abbrev pub refuse_of : Counts → Entry → Step
 refuse_of n s = record { planner = record { course = course.Over verdict.Address; counts = n }; given = given.Refused s (end_with n verdict.Address) }
 
 abbrev pub course_of : Reached → Course
-course_of (reached.At s p) = course.Scaled s p
-course_of (reached.Ended v) = course.Over v
+course_of (Ok q) = course.Scaled q.0 q.1
+course_of (Err v) = course.Over v
 
 -- a copy plan starts before its first row, with the texture image due
 abbrev pub AtStart : Course → Type 0

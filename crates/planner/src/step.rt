@@ -6,7 +6,7 @@ ghost use Rattle.planner.specs.Coming.{Sound, StepGives, StepIs, give_of, stop_o
 
 use crate::types::{Course, Given, Planner, Step, Stepped};
 use copy::CopyNext;
-use loads::{Reached, ScaledNext};
+use loads::Refused;
 use object::Verdict;
 use plan::{Answer, Entry};
 use tile::Bank;
@@ -64,11 +64,10 @@ fn scaled_step(stage: loads::Stage, place: loads::Place, n: Counts) -> Step
 {
     match passes::scaled_next(stage, place) {
         // A course for both answers of a pass would be made in memory at every step.
-        ScaledNext::Entry(entry, r) => match r {
-            Reached::At(stage, place) => give(Course::Scaled(stage, place), n, entry),
-            Reached::Ended(v) => give(Course::Over(v), n, entry),
-        },
-        ScaledNext::Refused(size) => refuse(n, size),
+        // A course for both answers of a pass would be made in memory at every step.
+        Ok((entry, Ok((stage, place)))) => give(Course::Scaled(stage, place), n, entry),
+        Ok((entry, Err(v))) => give(Course::Over(v), n, entry),
+        Err(Refused(size)) => refuse(n, size),
     }
 }
 

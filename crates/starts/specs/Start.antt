@@ -1,6 +1,6 @@
 -- Where a plan starts: each refusal, an empty frame, and the first place of each mode. D is docs/SPECIFICATION.md, section 4.
 -- Assumes nothing.
-use Rattle.std.specs.Prelude.{◌≡◌, refl, true, false, List, [], ℕ, Ok, Err}
+use Rattle.std.specs.Prelude.{◌≡◌, refl, Ok, Err, true, false, List, [], ℕ}
 use Rattle.std.proofs.Math.Path.{sym, ap}
 use Rattle.std.proofs.Common.{◌∙◌}
 use native.Mathlib.Omega.{arith}
@@ -28,8 +28,7 @@ use Rattle.copy.specs.declared.types.Due.TheVariants as due
 use Rattle.copy.specs.Walk.{start_at, SoundStart}
 use Rattle.copy.specs.Coming.{coming_copy, copy_start}
 use Rattle.copy.specs.Kept.{start_sound, start_left}
-use Rattle.loads.specs.declared.types.Reached.{Reached}
-use Rattle.loads.specs.declared.types.Reached.TheVariants as reached
+use Rattle.loads.specs.Coming.{Reached}
 use Rattle.loads.specs.Sound.{Reaches}
 use Rattle.words.specs.declared.count.Counts.{Counts}
 use Rattle.words.specs.Counts.{zero_counts, counted_all, end_with}
@@ -93,10 +92,10 @@ module _ (bg : ObjBg) (s : Scissor) (mode address : ℕ) where
 
   pub scaled_begins : scaled_empty (clip_of bg s) ≡ false → slices_bad (strips_of bg s mode address) ≡ false → (r : Reached)
       → Reaches (plan_out (scaled_plan (strips_of bg s mode address) (clip_of bg s) (first_of (strips_of bg s mode address) (start_of bg (clip_of bg s))))) 16384 r → StartsScaled bg s mode address (course_of r)
-  scaled_begins t u (reached.At stage place) g =
+  scaled_begins t u (Ok q) g =
       let l = g.left in
       λ bytes opcode. record { is = g.is ∙ sym (ap plan_out (out_scaled bg (request_of bytes opcode s mode address) t u)); first = tt; sound = g.sound; left = omega arith }
-  scaled_begins t u (reached.Ended v) g = λ bytes opcode. over_starts _ v (g.is ∙ sym (ap plan_out (out_scaled bg (request_of bytes opcode s mode address) t u)))
+  scaled_begins t u (Err v) g = λ bytes opcode. over_starts _ v (g.is ∙ sym (ap plan_out (out_scaled bg (request_of bytes opcode s mode address) t u)))
 
 -- a fresh planner, by what the checks say
 module _ (bytes : List ℕ) (opcode : ℕ) (s : Scissor) (mode address : ℕ) where

@@ -3,7 +3,6 @@ ghost use Rattle.checks.specs.Known.{PassedCopy, PassedScaled};
 ghost use Rattle.planner.specs.Coming.{Fresh, StartsCopy, StartsScaled};
 
 use copy::{Due, Stage};
-use loads::Reached;
 use object::{Checked, ObjBg, Scissor, Verdict};
 use planner::{Course, Planner};
 use words::Counts;
@@ -33,8 +32,8 @@ fn scaled_course(bg: ObjBg, scissor: Scissor, mode: u32, address: u64) -> Course
         return Course::Over(Verdict::Slices);
     }
     match passes::scaled_start(z, c, first::first_of(z, i)) {
-        Reached::At(stage, place) => Course::Scaled(stage, place),
-        Reached::Ended(v) => Course::Over(v),
+        Ok((stage, place)) => Course::Scaled(stage, place),
+        Err(v) => Course::Over(v),
     }
 }
 

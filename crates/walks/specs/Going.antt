@@ -1,12 +1,13 @@
 -- The passes from a walk with lines left: one without a line is passed over, one that draws has its load, its rectangle and the passes after it to come.
 -- Assumes nothing.
-use Rattle.std.specs.Prelude.{◌≡◌, refl, Bool, true, false, cond, [], ℕ, ◌-◌, ◌*◌, ◌^◌, ◌≤◌, ◌<◌, eqb, ℤ, pos, negsuc, neg_ℤ, ◌+ℤ◌, ◌-ℤ◌, ◌*ℤ◌, ◌≤ℤ◌}
+use Rattle.std.specs.Prelude.{◌≡◌, refl, Result, Ok, Err, Bool, true, false, cond, [], ℕ, ◌-◌, ◌*◌, ◌^◌, ◌≤◌, ◌<◌, eqb, ℤ, pos, negsuc, neg_ℤ, ◌+ℤ◌, ◌-ℤ◌, ◌*ℤ◌, ◌≤ℤ◌}
 use Rattle.std.proofs.Math.Path.{sym}
 use Rattle.std.proofs.Common.{ap, ◌∙◌, arith, mul-le-mul, ne_eqb, le-ltb, eqb-true}
 use Rattle.std.specs.Int.Signed.{lt_z, le_z}
 use Rattle.signed.specs.Diff.{up, dn, zdiff, zparts, zarith}
 use Rattle.signed.specs.Floor.{floor_div}
 use Rattle.signed.specs.Cast.{min_z}
+use Rattle.object.specs.declared.types.Verdict.{Verdict}
 use Rattle.object.specs.declared.types.Verdict.TheVariants as verdict
 use Rattle.measures.specs.Measure.{whole}
 use Rattle.measures.specs.Range.{Within}
@@ -18,15 +19,14 @@ use Rattle.plan.specs.Next.{ended}
 use Rattle.plan.specs.Sound.{SoundScaled}
 use Rattle.plan.specs.Scaled.{draw_of, left_after, lines_of, rows_of, next_pass, advance, load_1cyc}
 use Rattle.loads.specs.declared.types.Place.{Place}
+use Rattle.loads.specs.declared.types.Piece.{Piece}
 use Rattle.loads.specs.declared.types.Piece.TheVariants as piece
-use Rattle.loads.specs.declared.types.Begun.TheVariants as begun
 use Rattle.loads.specs.Coming.{passes_of, piece_out, drawn}
 use Rattle.walks.specs.Rounds.{idle_round, draw_round}
 use Rattle.loads.specs.Loads.{after_yield, after_refuse}
 use Rattle.loads.specs.Comes.{within}
 use Rattle.loads.specs.Kept.{idle_kept, not_over}
 use Rattle.loads.specs.Sound.{SoundWalk, SoundPass, Runs, Begins, due_lines, cut_lines, cut_rows}
-use Rattle.loads.specs.declared.types.Begun.{Begun}
 
 pub pos_up : (v : ℤ) → pos 0 ≤ℤ v → v ≡ pos (up v)
 pos_up (pos n) h = refl
@@ -133,7 +133,7 @@ pass_sound z w p r d ez ew er el =
 
 -- a pass that draws, with nothing of its load given
 pub draw_begins : (z : Scaled) (w : Walk) (p : Place) → Runs z w → 1 ≤ draw_of w → p.scaled ≡ z → p.walk ≡ w → p.rows ≡ rows_of z w (draw_of w) → p.lines ≡ lines_of w (draw_of w)
-    → Begins (plan_out (passes_of z w)) (14 * up w.frame_remain) (begun.At piece.Start p)
+    → Begins (plan_out (passes_of z w)) (14 * up w.frame_remain) (Ok (piece.Start, p))
 unfolding piece_out
 draw_begins z w p r d ez ew er el = (pass_sound z w p r d ez ew er el, (rw (ez, ew, er, el) (draws_on z w r d), rw ew (let a = some_left z w r in omega arith)))
 
@@ -174,12 +174,12 @@ module _ (z : Scaled) (w₀ w : Walk) (g : Gone z w₀ w) where
         by (pos c) p d = omega (arith, g.runs.scaled.frame_rows)
         by (negsuc c) p d = absurd (omega zarith)
 
-    pub gone_refused : refuse verdict.Address ≡ advance z w.source w.slice_rows → Begins (plan_out (passes_of z w₀)) (14 * up w₀.frame_remain) (begun.Ended verdict.Address)
+    pub gone_refused : refuse verdict.Address ≡ advance z w.source w.slice_rows → Begins (plan_out (passes_of z w₀)) (14 * up w₀.frame_remain) (Err verdict.Address)
     gone_refused e = idle_refused z w g.runs t e ∙ g.plan
 
-  pub gone_draw : (b : Begun) → Begins (plan_out (passes_of z w)) (14 * up w.frame_remain) b → Begins (plan_out (passes_of z w₀)) (14 * up w₀.frame_remain) b
-  gone_draw (begun.At k p) h = let l = ap up g.lines in let n = h.1.1 in (h.0, (h.1.0 ∙ g.plan, omega arith))
-  gone_draw (begun.Ended v) h = h ∙ g.plan
+  pub gone_draw : (b : Result (Piece × Place) Verdict) → Begins (plan_out (passes_of z w)) (14 * up w.frame_remain) b → Begins (plan_out (passes_of z w₀)) (14 * up w₀.frame_remain) b
+  gone_draw (Ok q) h = let l = ap up g.lines in let n = h.1.1 in (h.0, (h.1.0 ∙ g.plan, omega arith))
+  gone_draw (Err v) h = h ∙ g.plan
 
 -- a pass's lines are few
 pub lines_low : (p : Place) → SoundPass p → p.lines ≤ 2 ^ 21

@@ -8,7 +8,7 @@ ghost use Rattle.plan.specs.Scaled.{tile7 as tile7_of, lrs_of, lrt_of, rect_of};
 ghost use Rattle.loads.specs.Coming.{tile0 as tile0_of, image_of, rows_out};
 ghost use Rattle.loads.specs.Sound.{SoundPass, SoundPart, loaded_out};
 
-use loads::{Loaded, Part, Place};
+use loads::{Part, Place, Refused};
 use measures::Quarters;
 use plan::{Entry, Scaled};
 
@@ -95,7 +95,7 @@ fn lower(z: Scaled, rows: i64) -> u16
 }
 
 // The load of a part, or the size that a refused load has set.
-pub fn load(z: Scaled, q: Part) -> Loaded
+pub fn load(z: Scaled, q: Part) -> Result<Entry, Refused>
     requires sound_scaled { SoundScaled z }
     requires sound_part { SoundPart q }
     ensures { loaded_out result ≡ rows_out z q }
@@ -105,7 +105,7 @@ pub fn load(z: Scaled, q: Part) -> Loaded
     let field = width_field(z.stride);
     let siz = load_size(z.siz) as u8;
     match load_tile::load_request(siz, field, q.pointer, 0, 0, lrs, lrt) {
-        Some(request) => Loaded::Entry(Entry::Load {
+        Some(request) => Ok(Entry::Load {
             index: 7,
             uls: 0,
             ult: 0,
@@ -117,13 +117,13 @@ pub fn load(z: Scaled, q: Part) -> Loaded
             start: request.start,
             length: request.length,
         }),
-        None => Loaded::Refused(Entry::Size {
+        None => Err(Refused(Entry::Size {
             index: 7,
             uls: 0,
             ult: 0,
             lrs: lrs as u64,
             lrt: lrt as u64,
-        }),
+        })),
     }
 }
 

@@ -8,7 +8,7 @@ ghost use Rattle.plan.specs.Scaled.{draw_of, next_pass, after_draw};
 ghost use Rattle.loads.specs.Coming.{passes_of};
 ghost use Rattle.loads.specs.Sound.{SoundWalk, SoundRect, Runs, Begins, cut_lines, cut_rows, due_lines};
 
-use loads::{Begun, Moved, Piece, Place, advance, forward, less, plus, sum, times};
+use loads::{Begun, Piece, Place, advance, forward, less, plus, sum, times};
 use measures::ThirtySeconds;
 use object::Verdict;
 use plan::{Scaled, Source, Walk};
@@ -82,7 +82,7 @@ fn draw(w: Walk, p: Place) -> Begun
     q.walk = w;
     q.rows = rows;
     q.lines = lines;
-    Begun::At(Piece::Start, q)
+    Ok((Piece::Start, q))
 }
 
 // The next pass that draws, from a walk with lines left. Only the first strip may have fewer rows than the others, or less than none.
@@ -94,15 +94,11 @@ fn running(walk: Walk, p: Place) -> Begun
         return draw(walk, p);
     }
     let source = walk.source;
-    let Moved::To(next) = advance(p.scaled, source, walk.slice_rows) else {
-        return Begun::Ended(Verdict::Address);
-    };
+    let next = advance(p.scaled, source, walk.slice_rows).ok_or(Verdict::Address)?;
     let mut w = next_walk(p.scaled, walk.frame_y, walk.frame_remain, walk.count, next);
     while lines_due(w.count) == 0 {
         let source = w.source;
-        let Moved::To(next) = forward(p.scaled, source) else {
-            return Begun::Ended(Verdict::Address);
-        };
+        let next = forward(p.scaled, source).ok_or(Verdict::Address)?;
         w = next_walk(p.scaled, w.frame_y, w.frame_remain, w.count, next);
     }
     draw(w, p)
@@ -116,7 +112,7 @@ pub fn next_pass(w: Walk, p: Place) -> Begun
 {
     let remain = w.frame_remain;
     if remain <= 0 {
-        return Begun::Ended(Verdict::Finished);
+        return Err(Verdict::Finished);
     }
     running(w, p)
 }

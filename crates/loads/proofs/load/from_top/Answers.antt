@@ -1,73 +1,84 @@
 -- The two sums are as the definition has them, and the part is at the second.
-use Rattle.std.proofs.Common.{arith, refl, lit≤, ◌≡◌}
+use Rattle.std.proofs.Common.{arith, refl, lit≤, ◌≡◌, ◌-ℤ◌, to_z, of_z}
+use Rattle.std.specs.Int.{w64}
 use Rattle.signed.specs.Word.{rd}
-use Rattle.plan.specs.Scaled.{back}
-use Rattle.loads.specs.Coming.{sum_out}
+use Rattle.signed.specs.Floor.{modulo}
 use Rattle.loads.specs.Comes.{wider, difference_in, less_in, plus_in}
 use Rattle.loads.specs.Kept.{remain_in}
-use Rattle.loads.specs.Enter.{top_1, top_2, top_3, ended_as, reaches_as}
-use Rattle.loads.proofs.Read.{value, odd_low, remain_is, line_is, line_in, offset_is}
+use Rattle.loads.specs.Sums.{checked_sum}
+use Rattle.loads.specs.Enter.{top_1, top_2, top_3, ended_as, reaches_as, none_ends}
+use Rattle.loads.proofs.Read.{value, odd_low, remain_is, line_is, line_in}
 use Rattle.loads.proofs.load.from_top.Goals as goal
+use Rattle.loads.proofs.load.from_top.Goals.{After-difference-rows, After-rem_euclid-odd}
+
+-- the rows from the top, and whether the image's last row is an odd one
+rows_is : (c : After-difference-rows) → to_z w64 (of_z w64 c.difference-rows.result) ≡ c.args.lines -ℤ c.args.p.walk.source.remain
+rows_is c = value c.difference-rows.type_inv (rw (rd c.ranges.lines, remain_is c.args.p c.requires.sound_pass) at c.difference-rows.ensures)
+
+odd_is : (c : After-rem_euclid-odd) → c.rem_euclid-odd.result ≡ modulo c.args.p.walk.source.remain 2
+odd_is c = rw (remain_is c.args.p c.requires.sound_pass) at c.rem_euclid-odd.ensures
 
 pub difference-rows-requires : goal.difference-rows-requires
 difference-rows-requires c =
     let h = c.requires.sound_pass in
     (rw (rd c.ranges.lines) (wider 44 60 _ (lit≤ tt) c.requires.within), rw (remain_is c.args.p h) (wider 43 60 _ (lit≤ tt) (remain_in c.args.p.walk h.walk)))
 
-pub returns-in_default : goal.returns-in_default
-returns-in_default c =
+pub returns-in_err-first : goal.returns-in_err-first
+returns-in_err-first c =
     let p = c.args.p in
-    ended_as _ (top_1 p c.args.lines c.requires.remain_value _ refl (rw (offset_is p.scaled c.requires.sound_pass.scaled, c.in_default.is) at c.source_address.ensures))
+    let none = c.in_err-first.ensures in
+    let first = checked_sum p.scaled.address p.scaled.x_offset _ c.checked_add.ensures in
+    rw (none_ends none.ok_part none.value c.from_residual.ensures.1) (ended_as _ (top_1 p c.args.lines c.requires.remain_value _ refl (rw none.ok_part at first)))
 
-pub returns-in_default-back : goal.returns-in_default-back
-returns-in_default-back c =
+pub returns-in_err-pointer : goal.returns-in_err-pointer
+returns-in_err-pointer c =
     let p = c.args.p in
-    let h = c.requires.sound_pass in
-    let odd = rw (remain_is p h) at c.rem_euclid-odd.ensures in
-    let b : sum_out c.back.result ≡ back p.scaled c.rem_euclid-odd.result c.in-At.first = c.back.ensures in
-    ended_as _ (top_2 p c.args.lines c.requires.remain_value _ odd _ (rw (offset_is p.scaled h.scaled, c.in-At.is) at c.source_address.ensures) (rw c.in_default-back.is at b))
+    let odd = odd_is (goal.at.returns-in_err-pointer c).After-rem_euclid-odd in
+    let none = c.in_err-pointer.ensures in
+    let first = checked_sum p.scaled.address p.scaled.x_offset _ c.checked_add.ensures in
+    rw (none_ends none.ok_part none.value c.from_residual-in_err-pointer.ensures.1)
+    (ended_as _ (top_2 p c.args.lines c.requires.remain_value _ odd _ (rw c.in_ok-first.ensures.ok_part at first) (rw none.ok_part at c.back.ensures)))
 
 pub less-requires : goal.less-requires
 less-requires c =
     let h = c.requires.sound_pass in
-    let odd = rw (remain_is c.args.p h) at c.rem_euclid-odd.ensures in
-    (rw (remain_is c.args.p h) (wider 43 61 _ (lit≤ tt) (remain_in c.args.p.walk h.walk)), omega (arith, odd, odd_low c.args.p.walk.source.remain))
+    let odd = odd_is (goal.at.less-requires c).After-rem_euclid-odd in
+    (rw (remain_is c.args.p h) (wider 43 61 _ (lit≤ tt) (remain_in c.args.p.walk h.walk)), omega (arith, odd_low c.args.p.walk.source.remain))
 
 pub times-destination-requires : goal.times-destination-requires
 times-destination-requires c =
     let p = c.args.p in
     let h = c.requires.sound_pass in
-    let odd = rw (remain_is p h) at c.rem_euclid-odd.ensures in
+    let odd = odd_is (goal.at.times-destination-requires c).After-rem_euclid-odd in
     let even = value c.less.type_inv (rw (remain_is p h) at c.less.ensures) in
-    (rw even (wider 44 45 _ (lit≤ tt) (less_in 43 _ c.rem_euclid-odd.result (remain_in p.walk h.walk) (omega (arith, odd, odd_low p.walk.source.remain)))), omega (arith, h.scaled.line'))
+    (rw even (wider 44 45 _ (lit≤ tt) (less_in 43 _ c.rem_euclid-odd.result (remain_in p.walk h.walk) (omega (arith, odd_low p.walk.source.remain)))), omega (arith, h.scaled.line'))
 
 pub plus-requires : goal.plus-requires
 plus-requires c =
     let p = c.args.p in
     let h = c.requires.sound_pass in
-    let odd = rw (remain_is p h) at c.rem_euclid-odd.ensures in
-    let rows = value c.difference-rows.type_inv (rw (rd c.ranges.lines, remain_is p h) at c.difference-rows.ensures) in
-    (rw rows (wider 45 61 _ (lit≤ tt) (difference_in 44 _ _ c.requires.within (wider 43 44 _ (lit≤ tt) (remain_in p.walk h.walk)))), omega (arith, odd, odd_low p.walk.source.remain))
+    let at = goal.at.plus-requires c in
+    let odd = odd_is at.After-rem_euclid-odd in
+    (rw (rows_is at.After-difference-rows) (wider 45 61 _ (lit≤ tt) (difference_in 44 _ _ c.requires.within (wider 43 44 _ (lit≤ tt) (remain_in p.walk h.walk)))), omega (arith, odd_low p.walk.source.remain))
 
 pub enter-requires-clause-within : goal.enter-requires-clause-within
 enter-requires-clause-within c =
     let p = c.args.p in
     let h = c.requires.sound_pass in
-    let odd = rw (remain_is p h) at c.rem_euclid-odd.ensures in
-    let rows = value c.difference-rows.type_inv (rw (rd c.ranges.lines, remain_is p h) at c.difference-rows.ensures) in
+    let at = goal.at.enter-requires-clause-within c in
+    let odd = odd_is at.After-rem_euclid-odd in
     let rows_in = difference_in 44 _ _ c.requires.within (wider 43 44 _ (lit≤ tt) (remain_in p.walk h.walk)) in
-    let count = value c.plus.type_inv (rw rows at c.plus.ensures) in
-    (rw count (wider 46 47 _ (lit≤ tt) (plus_in 45 _ c.rem_euclid-odd.result rows_in (omega (arith, odd, odd_low p.walk.source.remain)))), rw (line_is p.scaled h.scaled) (wider 20 47 _ (lit≤ tt) (line_in p.scaled h.scaled)))
+    let count = value c.plus.type_inv (rw (rows_is at.After-difference-rows) at c.plus.ensures) in
+    (rw count (wider 46 47 _ (lit≤ tt) (plus_in 45 _ c.rem_euclid-odd.result rows_in (omega (arith, odd_low p.walk.source.remain)))), rw (line_is p.scaled h.scaled) (wider 20 47 _ (lit≤ tt) (line_in p.scaled h.scaled)))
 
 pub returns : goal.returns
 returns c =
     let p = c.args.p in
     let h = c.requires.sound_pass in
-    let odd = rw (remain_is p h) at c.rem_euclid-odd.ensures in
-    let rows = value c.difference-rows.type_inv (rw (rd c.ranges.lines, remain_is p h) at c.difference-rows.ensures) in
-    let count = value c.plus.type_inv (rw rows at c.plus.ensures) in
+    let at = goal.at.returns c in
+    let count = value c.plus.type_inv (rw (rows_is at.After-difference-rows) at c.plus.ensures) in
     let even = value c.less.type_inv (rw (remain_is p h) at c.less.ensures) in
     let place = value c.times-destination.type_inv (rw even at c.times-destination.ensures) in
-    let b : sum_out c.back.result ≡ back p.scaled c.rem_euclid-odd.result c.in-At.first = c.back.ensures in
-    reaches_as (top_3 p c.args.lines c.requires.remain_value _ odd _ (rw (offset_is p.scaled h.scaled, c.in-At.is) at c.source_address.ensures) _ (rw c.in-At-back.is at b))
+    let first = checked_sum p.scaled.address p.scaled.x_offset _ c.checked_add.ensures in
+    reaches_as (top_3 p c.args.lines c.requires.remain_value _ (odd_is at.After-rem_euclid-odd) _ (rw c.in_ok-first.ensures.ok_part at first) _ (rw c.in_ok-pointer.ensures.ok_part at c.back.ensures))
     (omega arith) (rw (count, place, line_is p.scaled h.scaled) at c.enter.ensures)

@@ -2,7 +2,7 @@
 use Rattle.std.proofs.Common.{lit≤}
 use Rattle.loads.specs.Comes.{wider}
 use Rattle.loads.specs.Kept.{remain_in, rows_in}
-use Rattle.loads.specs.Enter.{moved_to, moved_refused}
+use Rattle.loads.specs.Enter.{moved_to, moved_refused, none_ends}
 use Rattle.loads.proofs.Read.{rows_is}
 use Rattle.loads.proofs.load.moved.Goals as goal
 
@@ -11,8 +11,10 @@ advance-requires-clause-within c =
     let p = c.args.p in
     (wider 43 44 _ (lit≤ tt) (remain_in p.walk c.requires.walk), rw (rows_is p c.requires) (wider 43 44 _ (lit≤ tt) (rows_in p c.requires)))
 
-pub returns-in-Overflow : goal.returns-in-Overflow
-returns-in-Overflow c = moved_refused c.args.p c.requires (rw (rows_is c.args.p c.requires, c.in-Overflow.is) at c.advance.ensures)
+pub returns-in_err-next : goal.returns-in_err-next
+returns-in_err-next c =
+    let none = c.in_err-next.ensures in
+    rw (none_ends none.ok_part none.value c.from_residual.ensures.1) (moved_refused c.args.p c.requires (rw (rows_is c.args.p c.requires, none.ok_part) at c.advance.ensures))
 
-pub returns-in-To : goal.returns-in-To
-returns-in-To c = moved_to c.args.p c.requires _ (rw (rows_is c.args.p c.requires, c.in-To.is) at c.advance.ensures)
+pub returns : goal.returns
+returns c = moved_to c.args.p c.requires _ (rw (rows_is c.args.p c.requires, c.in_ok-next.ensures.ok_part) at c.advance.ensures)

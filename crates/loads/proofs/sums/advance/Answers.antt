@@ -1,72 +1,54 @@
 -- The test picks the definition's branch, and the sum's answer is the definition's.
-use Rattle.std.proofs.Common.{rules, arith, lit≤, ◌≡◌, pos, ◌+ℤ◌, ◌-ℤ◌, ◌*ℤ◌, ℤ, to_z, of_z}
+use Rattle.std.proofs.Common.{rules, lit≤, ◌≡◌, pos, ◌+ℤ◌, ◌-ℤ◌, ◌*ℤ◌, ℤ, to_z, of_z}
 use Rattle.std.specs.Int.{w64}
 use Rattle.measures.specs.Range.{Within}
-use Rattle.plan.specs.declared.types.Scaled.{Scaled}
-use Rattle.plan.specs.Sound.{SoundScaled}
-use Rattle.loads.specs.Comes.{difference_in, times_in, plus_in, wider, read_in}
+use Rattle.loads.specs.Comes.{difference_in, times_in, read_in}
 use Rattle.loads.specs.Loads.{advance_by_on, advance_by_wrap}
 use Rattle.loads.proofs.Read.{value}
 use Rattle.loads.proofs.sums.advance.Goals as goal
+use Rattle.loads.proofs.sums.advance.Goals.{After-difference-remain, After-times, After-times-2}
 
 is : (z : ℤ) → Within 44 z → to_z w64 (of_z w64 z) ≡ z
 is z w = read_in 44 z (lit≤ tt) w
 
--- the bytes of the rows, and of the rows past the image's end
-bytes_in : (z : Scaled) (a : ℤ) → SoundScaled z → Within 44 a → Within 62 (a *ℤ pos z.stride)
-bytes_in z a h w = wider 60 62 _ (lit≤ tt) (times_in 44 16 a z.stride w h.stride')
+-- the rows left, the bytes of the rows, and the bytes of the rows past the image's end
+left_is : (c : After-difference-remain) → to_z w64 (of_z w64 c.difference-remain.result) ≡ c.args.source.remain -ℤ c.args.rows
+left_is c = let w = c.requires.within in value c.difference-remain.type_inv (rw (is _ w.0, is _ w.1) at c.difference-remain.ensures)
 
-past_in : (z : Scaled) (a b : ℤ) → SoundScaled z → Within 44 a → Within 44 b → Within 61 ((a -ℤ b) *ℤ pos z.stride)
-past_in z a b h v w = times_in 45 16 (a -ℤ b) z.stride (difference_in 44 a b v w) h.stride'
+bytes_is : (c : After-times) → to_z w64 (of_z w64 c.times.result) ≡ c.args.rows *ℤ pos c.args.z.stride
+bytes_is c = value c.times.type_inv (rw (is _ c.requires.within.1) at c.times.ensures)
 
-pub source_address-requires : goal.source_address-requires
-source_address-requires c =
-    let w = c.requires.within.1 in
-    rw (value c.times.type_inv (rw (is _ w) at c.times.ensures)) (bytes_in c.args.z c.args.rows c.requires.sound_scaled w)
-
-pub returns-in_default : goal.returns-in_default
-returns-in_default c =
+past_is : (c : After-times-2) → to_z w64 (of_z w64 c.times-2.result) ≡ (c.args.rows -ℤ c.args.source.remain) *ℤ pos c.args.z.stride
+past_is c =
     let w = c.requires.within in
-    let left = value c.difference-remain.type_inv (rw (is _ w.0, is _ w.1) at c.difference-remain.ensures) in
-    let bytes = value c.times.type_inv (rw (is _ w.1) at c.times.ensures) in
-    rw c.in_default.is at (advance_by_on c.args.z c.args.source c.args.rows _ c.source_address.result left _ bytes c.if-remain-gt0.true c.source_address.ensures)
+    let past = value c.difference-past.type_inv (rw (is _ w.0, is _ w.1) at c.difference-past.ensures) in
+    value c.times-2.type_inv (rw past at c.times-2.ensures)
+
+pub returns-in_err-pointer : goal.returns-in_err-pointer
+returns-in_err-pointer c =
+    let at = goal.at.returns-in_err-pointer c in
+    rw c.from_residual.ensures (rw c.in_err-pointer.was at (advance_by_on c.args.z c.args.source c.args.rows _ c.source_address.result (left_is at.After-difference-remain) _ (bytes_is at.After-times) c.if-remain-gt0.true c.source_address.ensures))
 
 pub returns-then-remain-gt0 : goal.returns-then-remain-gt0
 returns-then-remain-gt0 c =
-    let w = c.requires.within in
-    let left = value c.difference-remain.type_inv (rw (is _ w.0, is _ w.1) at c.difference-remain.ensures) in
-    let bytes = value c.times.type_inv (rw (is _ w.1) at c.times.ensures) in
-    rw c.in-At.is at (advance_by_on c.args.z c.args.source c.args.rows _ c.source_address.result left _ bytes c.if-remain-gt0.true c.source_address.ensures)
+    let at = goal.at.returns-then-remain-gt0 c in
+    rw c.in_ok-pointer.was at (advance_by_on c.args.z c.args.source c.args.rows _ c.source_address.result (left_is at.After-difference-remain) _ (bytes_is at.After-times) c.if-remain-gt0.true c.source_address.ensures)
 
 pub plus-back-requires : goal.plus-back-requires
 plus-back-requires c =
     let w = c.requires.within in
-    let past = value c.difference-past.type_inv (rw (is _ w.0, is _ w.1) at c.difference-past.ensures) in
-    let bytes = value c.times-2.type_inv (rw past at c.times-2.ensures) in
-    (rw bytes (past_in c.args.z c.args.rows c.args.source.remain c.requires.sound_scaled w.1 w.0), search rules)
+    (rw (past_is (goal.at.plus-back-requires c).After-times-2) (times_in 45 16 _ _ (difference_in 44 _ _ w.1 w.0) c.requires.sound_scaled.stride'), search rules)
 
-pub source_address-requires-2 : goal.source_address-requires-2
-source_address-requires-2 c =
-    let w = c.requires.within in
-    let past = value c.difference-past.type_inv (rw (is _ w.0, is _ w.1) at c.difference-past.ensures) in
-    let bytes = value c.times-2.type_inv (rw past at c.times-2.ensures) in
-    let back = value c.plus-back.type_inv (rw bytes at c.plus-back.ensures) in
-    rw back (plus_in 61 _ c.args.z.x_offset (past_in c.args.z c.args.rows c.args.source.remain c.requires.sound_scaled w.1 w.0) (omega (arith, c.requires.sound_scaled.x_offset)))
-
-pub returns-in_default-source_address : goal.returns-in_default-source_address
-returns-in_default-source_address c =
-    let w = c.requires.within in
-    let left = value c.difference-remain.type_inv (rw (is _ w.0, is _ w.1) at c.difference-remain.ensures) in
-    let past = value c.difference-past.type_inv (rw (is _ w.0, is _ w.1) at c.difference-past.ensures) in
-    let bytes = value c.times-2.type_inv (rw past at c.times-2.ensures) in
-    let back = value c.plus-back.type_inv (rw bytes at c.plus-back.ensures) in
-    rw c.in_default-source_address.is at (advance_by_wrap c.args.z c.args.source c.args.rows _ c.source_address-2.result left _ (c.args.source.remain -ℤ c.args.rows +ℤ pos c.args.z.source_rows) back (rw left) c.if-remain-gt0.false c.source_address-2.ensures)
+pub returns-in_err-pointer-2 : goal.returns-in_err-pointer-2
+returns-in_err-pointer-2 c =
+    let at = goal.at.returns-in_err-pointer-2 c in
+    let left = left_is at.After-difference-remain in
+    let back = value c.plus-back.type_inv (rw (past_is at.After-times-2) at c.plus-back.ensures) in
+    rw c.from_residual-in_err-pointer-2.ensures
+    (rw c.in_err-pointer-2.was at (advance_by_wrap c.args.z c.args.source c.args.rows _ c.source_address-2.result left _ (c.args.source.remain -ℤ c.args.rows +ℤ pos c.args.z.source_rows) back (rw left) c.if-remain-gt0.false c.source_address-2.ensures))
 
 pub returns : goal.returns
 returns c =
-    let w = c.requires.within in
-    let left = value c.difference-remain.type_inv (rw (is _ w.0, is _ w.1) at c.difference-remain.ensures) in
-    let past = value c.difference-past.type_inv (rw (is _ w.0, is _ w.1) at c.difference-past.ensures) in
-    let bytes = value c.times-2.type_inv (rw past at c.times-2.ensures) in
-    let back = value c.plus-back.type_inv (rw bytes at c.plus-back.ensures) in
-    rw c.in-At-source_address.is at (advance_by_wrap c.args.z c.args.source c.args.rows _ c.source_address-2.result left _ _ back (value c.plus-remain.type_inv c.plus-remain.ensures) c.if-remain-gt0.false c.source_address-2.ensures)
+    let at = goal.at.returns c in
+    let back = value c.plus-back.type_inv (rw (past_is at.After-times-2) at c.plus-back.ensures) in
+    rw c.in_ok-pointer-2.was at (advance_by_wrap c.args.z c.args.source c.args.rows _ c.source_address-2.result (left_is at.After-difference-remain) _ _ back (value c.plus-remain.type_inv c.plus-remain.ensures) c.if-remain-gt0.false c.source_address-2.ensures)

@@ -8,7 +8,7 @@ use Rattle.plan.specs.declared.types.Scaled.{Scaled}
 use Rattle.plan.specs.declared.types.Start.{Start}
 use Rattle.plan.specs.Out.{plan_out}
 use Rattle.plan.specs.Scaled.{clip_of, scaled_empty, start_of, scaled_of, slices_bad, first_of, scaled_plan}
-use Rattle.loads.specs.declared.types.Reached.{Reached}
+use Rattle.loads.specs.Coming.{Reached}
 use Rattle.loads.specs.Sound.{Reaches}
 use Rattle.planner.specs.Coming.{StartsScaled, course_of}
 use Rattle.starts.specs.Start.{scaled_none, scaled_bad, scaled_begins}
@@ -30,14 +30,14 @@ returns-then-slices_bad c =
     scaled_bad a.bg a.scissor a.mode a.address (rw k at (sym c.clip_empty.ensures ∙ c.if-clip_empty.false))
     (rw (c.scaled_of-z.ensures.is, c.start_of-i.ensures.is, k) at (sym c.slices_bad.ensures ∙ c.if-slices_bad.true))
 
-pub returns-in-At : goal.returns-in-At
-returns-in-At c =
+pub returns-in-Ok : goal.returns-in-Ok
+returns-in-Ok c =
     let a = c.args in
     begun a.bg a.scissor a.mode a.address _ _ _ _ _ c.clip_of-c.ensures.is c.start_of-i.ensures.is c.scaled_of-z.ensures.is c.first_of.ensures.is
-    (sym c.clip_empty.ensures ∙ c.if-clip_empty.false) (sym c.slices_bad.ensures ∙ c.if-slices_bad.false) c.in-At.ensures
+    (sym c.clip_empty.ensures ∙ c.if-clip_empty.false) (sym c.slices_bad.ensures ∙ c.if-slices_bad.false) c.in-Ok.ensures
 
-pub returns-in-Ended : goal.returns-in-Ended
-returns-in-Ended c =
+pub returns-in-Err : goal.returns-in-Err
+returns-in-Err c =
     let a = c.args in
     begun a.bg a.scissor a.mode a.address _ _ _ _ _ c.clip_of-c.ensures.is c.start_of-i.ensures.is c.scaled_of-z.ensures.is c.first_of.ensures.is
-    (sym c.clip_empty.ensures ∙ c.if-clip_empty.false) (sym c.slices_bad.ensures ∙ c.if-slices_bad.false) c.in-Ended.ensures
+    (sym c.clip_empty.ensures ∙ c.if-clip_empty.false) (sym c.slices_bad.ensures ∙ c.if-slices_bad.false) c.in-Err.ensures
