@@ -7,15 +7,12 @@ ghost use Rattle.lines.specs.Lines.{with_text, Blank, DigitsIs, PutIs};
 const WIDE: u8 = 21;
 
 // Blanks from one place to another: a line gets its blanks at once, so that a column writes nothing but its number.
+#[tactic(auto, unfolding(crate::specs::Lines::with_text))]
 pub(crate) fn blank(out: &mut [u8], at: usize, end: usize)
     requires { (at ≤ end) × (end ≤ length out.old) }
     ensures { out.new ≡ with_text out.old at (replicate (end - at) space) }
 {
-    let mut i = at;
-    while i < end {
-        out[i] = b' ';
-        i = i + 1;
-    }
+    out[at..end].fill(b' ');
 }
 
 // In the other columns a word from 2^63 on stands for a negative number.
@@ -63,7 +60,7 @@ pub(crate) fn put(out: &mut [u8], at: usize, width: u8, x: u64) -> usize
     requires { Blank out.old at width }
     ensures { PutIs out.old at (cell width x) out.new result }
 {
-    let end = at + width as usize;
+    let end = at + usize::from(width);
     let first = digits(&mut *out, at, end, magnitude(width, x));
     if is_negative(width, x) & (at < first) {
         out[first - 1] = b'-';
