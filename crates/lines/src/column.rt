@@ -44,15 +44,14 @@ fn digits(out: &mut [u8], at: usize, end: usize, x: u64) -> usize
     ensures { DigitsIs out.old at end x out.new result }
 {
     let mut n = x;
-    let mut more = true;
-    let mut i = end;
-    while more & (at < i) {
-        i = i - 1;
+    for i in (at..end).rev() {
         out[i] = digit(n);
-        more = 10 <= n;
+        if n < 10 {
+            return i;
+        }
         n = n / 10;
     }
-    i
+    at
 }
 
 // A word in `width` places that are blank; the place after them.

@@ -4,7 +4,7 @@ use Rattle.std.proofs.lemmas.List.{nil_from_length}
 use Rattle.std.specs.Iterator.Adapters.{zip_first, zip_second}
 use Rattle.std.specs.Slice.Iter.{iter_rest}
 use Rattle.lines.specs.Lines.{total_of}
-use Rattle.lines.proofs.Rows.{Filled, blanks_are, blank_same, over_blanks, filled_start, filled_blank, filled_more, line_long, filled_line}
+use Rattle.lines.proofs.Rows.{blanks_are, over_blanks, filled_start, filled_blank, filled_more, line_long, filled_line}
 use Rattle.lines.proofs.line.row.Goals as goal
 
 pub loop-width-init : goal.loop-width-init
