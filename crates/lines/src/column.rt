@@ -49,7 +49,7 @@ fn digits(out: &mut [u8], at: usize, end: usize, x: u64) -> usize
         if n < 10 {
             return i;
         }
-        n = n / 10;
+        n /= 10;
     }
     at
 }
@@ -60,7 +60,7 @@ pub(crate) fn put(out: &mut [u8], at: usize, width: u8, x: u64) -> usize
     ensures { PutIs out.old at (cell width x) out.new result }
 {
     let end = at + usize::from(width);
-    let first = digits(&mut *out, at, end, magnitude(width, x));
+    let first = digits(out, at, end, magnitude(width, x));
     if is_negative(width, x) & (at < first) {
         out[first - 1] = b'-';
     }

@@ -24,10 +24,10 @@ fn row(out: &mut [u8], start: usize, widths: [u8; 11], words: [u64; 11]) -> usiz
     requires { start + total_of widths + 1 ≤ length out.old }
     ensures { PutIs out.old start (line widths words) out.new result }
 {
-    blank(&mut *out, start, start + total(widths));
+    blank(out, start, start + total(widths));
     let mut at = start;
     for (width, word) in widths.iter().zip(&words) {
-        at = put(&mut *out, at, *width, *word);
+        at = put(out, at, *width, *word);
     }
     out[at] = b'\n';
     at + 1
@@ -51,7 +51,7 @@ pub fn entry_line(out: &mut [u8], at: usize, e: Entry) -> usize
     requires { at + 128 ≤ length out.old }
     ensures { PutIs out.old at (entry_text e) out.new result }
 {
-    row(&mut *out, at, widths_of(e), entry_words(e))
+    row(out, at, widths_of(e), entry_words(e))
 }
 
 pub fn end_line(out: &mut [u8], at: usize, e: End) -> usize
@@ -59,7 +59,7 @@ pub fn end_line(out: &mut [u8], at: usize, e: End) -> usize
     ensures { PutIs out.old at (end_text e) out.new result }
 {
     row(
-        &mut *out,
+        out,
         at,
         [2, 8, 8, 8, 8, 0, 0, 0, 0, 0, 0],
         end_words(e),
