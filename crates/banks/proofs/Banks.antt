@@ -1,16 +1,14 @@
 -- A bank as words and out of words: number by number; and a bank whose numbers fit their fields, as entries leave it, comes back from its words.
 -- Assumes nothing.
 use mathlib.Core.Path.{◌≡◌, refl, sym, ap, ◌∙◌}
-use mathlib.Core.Bool.{Bool, true, false}
 use mathlib.Core.List.{List, [], ◌∷◌, ◌++◌}
-use Prim.Native.Nat.{ℕ, zero, suc, ◌+◌, ◌-◌, ◌*◌, ◌/◌, ◌%◌, ◌^◌, ◌<◌, ◌≤◌}
+use Prim.Native.Nat.{ℕ, zero, suc, ◌%◌, ◌^◌, ◌<◌, ◌≤◌}
 use native.Mathlib.Nat.{mod-eq_of_lt}
-use native.Mathlib.Numerals.{add-one}
 use native.Mathlib.Omega.{arith}
-use borrow.Author.Tests.{ltb-true, ltb-false}
-use lib.Dec.{ltb}
-use lib.ListN.{length, take, drop, get_or, set, get_or-append, length-set}
-use lib.Seq.{drop-drop, get_or-append-add, take-suc, take-suc-set, take_all}
+use lib.ListN.{length, drop, get_or, set, length-set}
+use lib.Seq.{drop-drop}
+use Rattle.std.specs.List.{flat_map, slice_range}
+use Rattle.std.proofs.lemmas.Slice.{between_to_end}
 use Rattle.tile.specs.declared.bank.Tile.{Tile}
 use Rattle.tile.specs.declared.bank.Bank.{Bank}
 use Rattle.tile.specs.Bank.{blank, replaced, resized, extent, set_tile, set_size}
@@ -21,48 +19,26 @@ use Rattle.plan.specs.Check.{tile_numbers, tiles_numbers}
 use Rattle.plan.specs.Run.{descriptor, bank_step, bank_after}
 use Rattle.plan.specs.Sound.{Narrow}
 use Rattle.giving.specs.Host.{tile_from, tiles_from, bank_from, bank_numbers}
-use Rattle.giving.proofs.HostLaws.{seventeen, each_seventeen}
 use Rattle.banks.specs.Narrows.{AllNarrow}
 
 -- ---- words into a bank
 
-pub eight_from : (ws : List ℕ) → bank_from ws ≡ record { tiles = tile_from (drop 0 ws) ∷ tile_from (drop 17 ws) ∷ tile_from (drop 34 ws) ∷ tile_from (drop 51 ws) ∷ tile_from (drop 68 ws) ∷ tile_from (drop 85 ws) ∷ tile_from (drop 102 ws) ∷ tile_from (drop 119 ws) ∷ [] }
+whole : (ws : List ℕ) (i : ℕ) → drop i ws ≡ slice_range ws i (length ws)
+whole ws i = sym (between_to_end ws i (length ws) (omega arith))
+
+pub eight_from : (ws : List ℕ) → bank_from ws ≡ record { tiles = tile_from ws ∷ tile_from (slice_range ws 17 (length ws)) ∷ tile_from (slice_range ws 34 (length ws)) ∷ tile_from (slice_range ws 51 (length ws)) ∷ tile_from (slice_range ws 68 (length ws)) ∷ tile_from (slice_range ws 85 (length ws)) ∷ tile_from (slice_range ws 102 (length ws)) ∷ tile_from (slice_range ws 119 (length ws)) ∷ [] }
 unfolding bank_from tiles_from
-eight_from ws = simp drop-drop
+eight_from ws = simp drop-drop (λ i. record { tiles = tile_from ws ∷ tile_from (whole ws 17 i) ∷ tile_from (whole ws 34 i) ∷ tile_from (whole ws 51 i) ∷ tile_from (whole ws 68 i) ∷ tile_from (whole ws 85 i) ∷ tile_from (whole ws 102 i) ∷ tile_from (whole ws 119 i) ∷ [] })
 
 -- ---- a bank into words
 
-number_at : (ts : List Tile) (i : ℕ) → i < length ts * 17 → get_or (tiles_numbers ts) i 0 ≡ get_or (tile_numbers (get_or ts (i / 17) blank)) (i % 17) 0
+-- lists that are the tiles' numbers, one for each tile, are the bank's numbers one after another
+pub tiles_flat : (ts : List Tile) (ns : List (List ℕ)) → length ns ≡ length ts → ((i : ℕ) → i < length ts → get_or ns i [] ≡ tile_numbers (get_or ts i blank)) → flat_map (λ x. x) ns ≡ tiles_numbers ts
 unfolding tiles_numbers
-number_at [] i h = absurd (omega arith)
-number_at (t ∷ ts) i h = by (λ j l. number_at ts j l) (ltb i 17) refl
-  where
-    by : ((j : ℕ) → j < length ts * 17 → get_or (tiles_numbers ts) j 0 ≡ get_or (tile_numbers (get_or ts (j / 17) blank)) (j % 17) 0) → (b : Bool) → ltb i 17 ≡ b → get_or (tile_numbers t ++ tiles_numbers ts) i 0 ≡ get_or (tile_numbers (get_or (t ∷ ts) (i / 17) blank)) (i % 17) 0
-    by rest true e =
-        let l = ltb-true i 17 e in
-        let q : i / 17 ≡ 0 = omega arith in
-        let r : i % 17 ≡ i = omega arith in
-        get_or-append (tile_numbers t) (tiles_numbers ts) 0 i (omega (arith, seventeen t)) ∙ rw (q, r)
-    by rest false e =
-        let l = ltb-false i 17 e in
-        let z : i ≡ length (tile_numbers t) + (i - 17) = omega (arith, seventeen t) in
-        let q : i / 17 ≡ suc ((i - 17) / 17) = omega arith in
-        let r : (i - 17) % 17 ≡ i % 17 = omega arith in
-        ap (λ (j : ℕ). get_or (tile_numbers t ++ tiles_numbers ts) j 0) z
-        ∙ get_or-append-add (tile_numbers t) (tiles_numbers ts) (i - 17) 0
-        ∙ rest (i - 17) (omega arith)
-        ∙ rw (q, r)
-
-module _ (b : Bank) (eight : length b.tiles ≡ 8) (words : List ℕ) (is : length words ≡ 136) where
-  pub next_number : (i x : ℕ) → i < 136 → take i words ≡ take i (bank_numbers b) → x ≡ get_or (tile_numbers (get_or b.tiles (i / 17) blank)) (i % 17) 0 → take (i + 1) (set words i x) ≡ take (i + 1) (bank_numbers b)
-  unfolding bank_numbers
-  next_number i x h t e =
-      let l = each_seventeen b.tiles in
-      rw (add-one, take-suc-set words i x (omega arith), take-suc (tiles_numbers b.tiles) i 0 (omega arith), t, e, number_at b.tiles i (omega arith))
-
-  pub all_numbers : (i : ℕ) → 136 ≤ i → take i words ≡ take i (bank_numbers b) → words ≡ bank_numbers b
-  unfolding bank_numbers
-  all_numbers i h t = let l = each_seventeen b.tiles in sym (take_all i words (omega arith)) ∙ t ∙ take_all i (tiles_numbers b.tiles) (omega arith)
+tiles_flat [] [] e h = refl
+tiles_flat [] (n ∷ ns) e h = absurd (omega arith)
+tiles_flat (t ∷ ts) [] e h = absurd (omega arith)
+tiles_flat (t ∷ ts) (n ∷ ns) e h = λ j. h 0 (omega arith) j ++ tiles_flat ts ns (omega arith) (λ i l. h (suc i) (omega arith)) j
 
 -- ---- a bank that is written and read again
 

@@ -32,19 +32,12 @@ fn read<R: Read>(input: &mut R, bytes: &mut [u8]) -> io::Result<usize>
     Ok(n)
 }
 
-// Room for the pieces of a text. The promise is what lending a part needs.
-fn piece() -> [u8; 262144]
-    ensures { 262144 ≡ length result }
-{
-    [0; 262144]
-}
-
 // The text of all that a planner has to come, in large pieces. The one place where it goes out; after a write that fails nothing more does.
 fn print<W: Write>(output: &mut W, start: Planner) -> io::Result<()>
     requires { Sound start }
     ensures { OnOk result (Appends (W.contents output.old) (W.contents output.new) (coming_text (coming start))) }
 {
-    let mut piece = piece();
+    let mut piece = [0u8; 262144];
     let mut planner = start;
     loop {
         let chunk = show::next_text(planner, &mut piece);
@@ -61,14 +54,8 @@ fn answer<R: Read, W: Write>(input: &mut R, output: &mut W) -> Result<(), Failur
     ensures { AnswerIs (R.remaining input.old) (W.contents output.old) (W.contents output.new) result }
 {
     let mut bytes = [0u8; 61];
-    let n = match read(input, &mut bytes) {
-        Ok(n) => n,
-        Err(e) => return Err(Failure::Input(e)),
-    };
-    match print(output, show::case_planner(&bytes[..n])) {
-        Ok(()) => Ok(()),
-        Err(e) => Err(Failure::Output(e)),
-    }
+    let n = read(input, &mut bytes).map_err(Failure::Input)?;
+    print(output, show::case_planner(&bytes[..n])).map_err(Failure::Output)
 }
 
 fn main(rt: HostRuntime) -> ExitCode {

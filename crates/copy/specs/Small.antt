@@ -1,6 +1,6 @@
 -- Every entry that the copy walk gives is small: its rows, its line, and what a tile keeps of it.
 -- Assumes nothing.
-use Rattle.std.specs.Prelude.{◌≡◌, refl, Bool, true, false, cond, ℕ, ◌≤◌, eqb, Option, Some, None}
+use Rattle.std.specs.Prelude.{◌≡◌, Ok, Err, Option, Some, None, refl, Bool, true, false, cond, ℕ, ◌≤◌, eqb}
 use Rattle.std.proofs.Common.{arith}
 use Rattle.load_tile.specs.declared.load.LoadRequest.{LoadRequest}
 use Rattle.load_tile.specs.Load.{rows_in_request}
@@ -12,16 +12,15 @@ use Rattle.copy.specs.declared.types.Due.TheVariants as due
 use Rattle.copy.specs.declared.types.Stage.{Stage}
 use Rattle.copy.specs.declared.types.Stage.TheVariants as stage
 use Rattle.copy.specs.declared.types.Place.{Place}
-use Rattle.copy.specs.declared.types.CopyNext.{CopyNext}
-use Rattle.copy.specs.declared.types.CopyNext.TheVariants as next
-use Rattle.copy.specs.Walk.{SoundAt, tile_entry, tile0_entry, size_entry, area_of, request_in, due_entry, too_big, tile7_next, load_next, strip_next, copy_next_of}
+use Rattle.copy.specs.declared.types.CopyEnd.TheVariants as end
+use Rattle.copy.specs.Walk.{CopyStep, SoundAt, tile_entry, tile0_entry, size_entry, area_of, request_in, due_entry, too_big, tile7_next, load_next, strip_next, copy_next_of}
 
 -- the entry that is given, and the size that a refused load has set
-abbrev pub NextIn : CopyNext → Type 0
-NextIn (next.Entry e s p) = EntryIn e
-NextIn next.TooBig = Unit {0}
-NextIn (next.Overflow e) = Narrow e
-NextIn next.Finished = Unit {0}
+abbrev pub NextIn : CopyStep → Type 0
+NextIn (Ok n) = EntryIn n.0
+NextIn (Err end.TooBig) = Unit {0}
+NextIn (Err (end.Overflow e)) = Narrow e
+NextIn (Err end.Finished) = Unit {0}
 
 -- a load's bounds
 record AreaIn (a : Area) : Type 0 where

@@ -1,6 +1,6 @@
 -- One step of the copy walk: the entry that is due, and where the walk stands after it. D is docs/SPECIFICATION.md.
 -- Assumes nothing.
-use Rattle.std.specs.Prelude.{◌≡◌, Bool, true, false, cond, [], ◌∷◌, ℕ, ◌+◌, ◌-◌, ◌*◌, ◌%◌, ◌^◌, ◌<◌, ltb, ℤ, pos, neg_ℤ, Option, Some, None}
+use Rattle.std.specs.Prelude.{◌≡◌, Bool, true, false, cond, Result, Ok, Err, Option, Some, None, [], ◌∷◌, ℕ, ◌+◌, ◌-◌, ◌*◌, ◌%◌, ◌^◌, ◌<◌, ltb, ℤ, pos, neg_ℤ}
 use Rattle.signed.specs.Cast.{i16}
 use Rattle.object.specs.declared.types.Verdict.TheVariants as verdict
 use Rattle.measures.specs.Measure.{quarters, of_texels, rows_high}
@@ -19,8 +19,8 @@ use Rattle.copy.specs.declared.types.Due.TheVariants as due
 use Rattle.copy.specs.declared.types.Stage.{Stage}
 use Rattle.copy.specs.declared.types.Stage.TheVariants as stage
 use Rattle.copy.specs.declared.types.Place.{Place}
-use Rattle.copy.specs.declared.types.CopyNext.{CopyNext}
-use Rattle.copy.specs.declared.types.CopyNext.TheVariants as next
+use Rattle.copy.specs.declared.types.CopyEnd.{CopyEnd}
+use Rattle.copy.specs.declared.types.CopyEnd.TheVariants as end
 use Rattle.strips.specs.Strip.{Bounds, Rows}
 
 -- ---- where a walk stands
@@ -116,28 +116,32 @@ due_entry due.Rect p = rect_entry p
 abbrev pub too_big : Place → Bool
 too_big p = ltb p.copy.capacity (p.strip.line * p.strip_height)
 
-unfoldable pub tile7_next : Bool → Place → CopyNext
-tile7_next true p = next.TooBig
-tile7_next false p = next.Entry (tile_entry p 7 0 0) stage.Tile0 p
+-- an entry with where the walk stands after it, or why there is none
+abbrev pub CopyStep : Type 0
+CopyStep = Result (Entry × Stage × Place) CopyEnd
+
+unfoldable pub tile7_next : Bool → Place → CopyStep
+tile7_next true p = Err end.TooBig
+tile7_next false p = Ok (tile_entry p 7 0 0, stage.Tile0, p)
 
 -- D verdict 9 "a load refused by 9 has already set tile 7's size"
-unfoldable pub load_next : Option LoadRequest → Area → Place → CopyNext
-load_next (Some r) a p = next.Entry (entry.Load 7 a.uls a.ult a.lrs a.lrt r.words r.rows r.stride r.start r.length) (stage.Strip due.Rect) p
-load_next None a p = next.Overflow (entry.Size 7 a.uls a.ult a.lrs a.lrt)
+unfoldable pub load_next : Option LoadRequest → Area → Place → CopyStep
+load_next (Some r) a p = Ok (entry.Load 7 a.uls a.ult a.lrs a.lrt r.words r.rows r.stride r.start r.length, stage.Strip due.Rect, p)
+load_next None a p = Err (end.Overflow (entry.Size 7 a.uls a.ult a.lrs a.lrt))
 
 -- the strip after this one: in the row, in the next row, or none
-unfoldable pub strip_next : (in_row in_frame : Bool) → Due → Place → CopyNext
-strip_next true u d p = next.Entry (due_entry d p) stage.Tile7 (place_at p.copy (p.x + p.strip.strip_width) p.y p.sy p.strip_height)
-strip_next false true d p = next.Entry (due_entry d p) stage.Tile7 (row_at p.copy (p.y + p.strip_height))
-strip_next false false d p = next.Entry (due_entry d p) stage.Done p
+unfoldable pub strip_next : (in_row in_frame : Bool) → Due → Place → CopyStep
+strip_next true u d p = Ok (due_entry d p, stage.Tile7, place_at p.copy (p.x + p.strip.strip_width) p.y p.sy p.strip_height)
+strip_next false true d p = Ok (due_entry d p, stage.Tile7, row_at p.copy (p.y + p.strip_height))
+strip_next false false d p = Ok (due_entry d p, stage.Done, p)
 
-unfoldable pub copy_next_of : Stage → Place → CopyNext
+unfoldable pub copy_next_of : Stage → Place → CopyStep
 copy_next_of (stage.Strip d) p = strip_next (ltb (p.x + p.strip.strip_width) p.copy.width) (ltb (p.y + p.strip_height) p.copy.height) d p
 copy_next_of stage.Tile7 p = tile7_next (too_big p) p
-copy_next_of stage.Tile0 p = next.Entry (tile0_entry p) stage.Size p
-copy_next_of stage.Size p = next.Entry (size_entry p) stage.Load p
+copy_next_of stage.Tile0 p = Ok (tile0_entry p, stage.Size, p)
+copy_next_of stage.Size p = Ok (size_entry p, stage.Load, p)
 copy_next_of stage.Load p = load_next (request_in p.copy (area_of p)) (area_of p) p
-copy_next_of stage.Done p = next.Finished
+copy_next_of stage.Done p = Err end.Finished
 
 -- ---- the same as one step of a walk
 
@@ -145,8 +149,8 @@ pub record CopyWalk : Type 0 where
   pub stage : Stage
   pub place : Place
 
-abbrev pub as_next : CopyNext → Next CopyWalk
-as_next (next.Entry e s p) = give e (record { stage = s; place = p })
-as_next next.TooBig = over [] verdict.TooBig
-as_next (next.Overflow e) = over (e ∷ []) verdict.Address
-as_next next.Finished = over [] verdict.Finished
+abbrev pub as_next : CopyStep → Next CopyWalk
+as_next (Ok n) = give n.0 (record { stage = n.1; place = n.2 })
+as_next (Err end.TooBig) = over [] verdict.TooBig
+as_next (Err (end.Overflow e)) = over (e ∷ []) verdict.Address
+as_next (Err end.Finished) = over [] verdict.Finished

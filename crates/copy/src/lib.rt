@@ -4,5 +4,5 @@
 mod types;
 mod walk;
 
-pub use types::{CopyNext, Due, Place, Stage};
+pub use types::{CopyEnd, CopyNext, Due, Place, Stage};
 pub use walk::{copy_next, copy_start};

@@ -1,4 +1,4 @@
-// Where a copy walk stands, and what one step of it answers.
+// Where a copy walk stands, and why it ends.
 use plan::{Copy, Entry, Strip};
 
 // The bounds of a load into tile 7.
@@ -39,11 +39,13 @@ pub struct Place {
     pub strip: Strip,
 }
 
-// What one step answers: an entry with where the walk stands after it, or the end. A refused load has set a size.
+// Why a step gives no entry. A refused load has set a size.
 #[derive(Clone, Copy)]
-pub enum CopyNext {
-    Entry(Entry, Stage, Place),
+pub enum CopyEnd {
     TooBig,
     Overflow(Entry),
     Finished,
 }
+
+// What one step answers: an entry with where the walk stands after it, or why there is none.
+pub type CopyNext = Result<(Entry, Stage, Place), CopyEnd>;

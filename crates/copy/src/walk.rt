@@ -7,7 +7,7 @@ ghost use Rattle.plan.specs.Sound.{SoundCopy};
 ghost use Rattle.copy.specs.Walk.{place_at, start_at, SoundPlace, SoundAt, image_entry, tile_entry, tile0_entry, size_entry, area_of, request_in, first_texel, rect_entry, due_entry, too_big, load_next, copy_next_of};
 ghost use Rattle.copy.specs.declared.types.Stage.TheVariants as stage;
 
-use crate::types::{Area, CopyNext, Due, Place, Stage};
+use crate::types::{Area, CopyEnd, CopyNext, Due, Place, Stage};
 use load_tile::LoadRequest;
 use measures::Quarters;
 use plan::{Copy, Entry, Strip};
@@ -201,10 +201,10 @@ fn tile7_next(p: Place) -> CopyNext
     ensures { result ≡ copy_next_of stage.Tile7 p }
 {
     if too_big(p) {
-        return CopyNext::TooBig;
+        return Err(CopyEnd::TooBig);
     }
     let entry = tile_entry(p, 7, 0, 0);
-    CopyNext::Entry(entry, Stage::Tile0, p)
+    Ok((entry, Stage::Tile0, p))
 }
 
 // The answer to what the load asked for.
@@ -226,7 +226,7 @@ fn loaded(request: Option<LoadRequest>, a: Area, p: Place) -> CopyNext
                 start: r.start,
                 length: r.length,
             };
-            CopyNext::Entry(entry, Stage::Strip(Due::Rect), p)
+            Ok((entry, Stage::Strip(Due::Rect), p))
         }
         None => {
             let size = Entry::Size {
@@ -236,7 +236,7 @@ fn loaded(request: Option<LoadRequest>, a: Area, p: Place) -> CopyNext
                 lrs: a.lrs as u64,
                 lrt: a.lrt as u64,
             };
-            CopyNext::Overflow(size)
+            Err(CopyEnd::Overflow(size))
         }
     }
 }
@@ -288,13 +288,13 @@ fn strip_next(due: Due, p: Place) -> CopyNext
     } else {
         y = p.y + p.strip_height;
         if c.height <= y {
-            return CopyNext::Entry(entry, Stage::Done, p);
+            return Ok((entry, Stage::Done, p));
         }
         sy = strip_row(c, y);
         height = strip_height(c, y, sy);
     }
     let place = place_at(c, x, y, sy, height);
-    CopyNext::Entry(entry, Stage::Tile7, place)
+    Ok((entry, Stage::Tile7, place))
 }
 
 #[tactic(auto, unfolding(crate::specs::Walk::copy_next_of))]
@@ -307,13 +307,13 @@ pub fn copy_next(stage: Stage, place: Place) -> CopyNext
         Stage::Tile7 => tile7_next(place),
         Stage::Tile0 => {
             let entry = tile0_entry(place);
-            CopyNext::Entry(entry, Stage::Size, place)
+            Ok((entry, Stage::Size, place))
         }
         Stage::Size => {
             let entry = size_entry(place);
-            CopyNext::Entry(entry, Stage::Load, place)
+            Ok((entry, Stage::Load, place))
         }
         Stage::Load => load_next(place),
-        Stage::Done => CopyNext::Finished,
+        Stage::Done => Err(CopyEnd::Finished),
     }
 }

@@ -76,7 +76,7 @@ fn count_strips(c: Copy, wrap: u64) -> End
             }
             entries += 5;
             rectangles += 1;
-            words = signed::most(words, size);
+            words = words.max(size);
             x += strip.strip_width;
             sx = wrap;
         }

@@ -1,2 +1,2 @@
--- One step of each loop.
+-- A word by its bytes.
 pub mod Steps

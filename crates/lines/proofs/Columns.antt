@@ -9,6 +9,7 @@ use lib.Dec.{ltb, leb}
 use lib.ListN.{length, take, drop, set, replicate, length-append, length-replicate, replicate-append-replicate}
 use lib.Seq.{take-take}
 use borrow.Author.Tests.{ltb-true, ltb-false}
+use Rattle.std.proofs.lemmas.Bool.{le-leb, lt-leb}
 use Rattle.lines.specs.Text.{space, minus, digits_of, leading, column, is_negative, magnitude_of, cell}
 use Rattle.lines.specs.Lines.{with_text, PutIs, Blank, DigitsIs}
 use Rattle.lines.proofs.Texts.{with_nil, with_before, with_lead}
@@ -40,18 +41,15 @@ cell_length w x =
 
 -- ---- digits from the right
 
-abbrev owed : Bool → (k n : ℕ) → List ℕ
-owed more k n = cond more (digits_of k n) []
-
 -- what is still owed, in front of what is done, is the number
-pub record Writing (out₀ : List ℕ) (at end n₀ : ℕ) (out : List ℕ) (n : ℕ) (more : Bool) (i : ℕ) : Type 0 where
+pub record Writing (out₀ : List ℕ) (at end n₀ : ℕ) (out : List ℕ) (n i : ℕ) : Type 0 where
   pub from : at ≤ i
   pub done : List ℕ
   pub place : i + length done ≡ end
-  pub is : digits_of (end - at) n₀ ≡ owed more (i - at) n ++ done
+  pub is : digits_of (end - at) n₀ ≡ digits_of (i - at) n ++ done
   pub stands : out ≡ with_text out₀ i done
 
-pub writing_start : (out : List ℕ) (at end n : ℕ) → at ≤ end → Writing out at end n out n true end
+pub writing_start : (out : List ℕ) (at end n : ℕ) → at ≤ end → Writing out at end n out n end
 writing_start out at end n l =
     record { from = l; done = []; place = omega arith; is = sym (append-nil (digits_of (end - at) n)); stands = sym (with_nil out end) }
 
@@ -59,41 +57,43 @@ both : (a b : Bool) → (a && b) ≡ true → (a ≡ true) × (b ≡ true)
 both true b e = (refl, e)
 both false b e = let z : ◌≡◌ {A = ℕ} 0 1 = cc in absurd (omega arith)
 
-module _ (out₀ : List ℕ) (at end n₀ : ℕ) (out : List ℕ) (n : ℕ) (more : Bool) (i : ℕ) (h : Writing out₀ at end n₀ out n more i) where
-  pub still : (more && ltb at i) ≡ true → at < i
-  still t = ltb-true at i (both more (ltb at i) t).1
-
+module _ (out₀ : List ℕ) (at end n₀ : ℕ) (out : List ℕ) (n i : ℕ) (h : Writing out₀ at end n₀ out n i) where
   -- one place more to the left
-  pub writing_more : (g : ℕ) → (more && ltb at i) ≡ true → end ≤ length out₀ → g ≡ 48 + n % 10 → Writing out₀ at end n₀ (set out (i - 1) g) (n / 10) (leb 10 n) (i - 1)
-  unfolding digits_of
-  writing_more g t room e =
-      let l = still t in
-      let p = h.place in
-      let k : i - at ≡ suc (i - 1 - at) = omega arith in
-      let j : i ≡ i - 1 + 1 = omega arith in
-      let rest = cond (leb 10 n) (digits_of (i - 1 - at) (n / 10)) [] in
-      record {
-        from = omega arith;
-        done = g ∷ h.done;
-        place = omega arith;
-        is =
-            h.is
-            ∙ (λ d. owed ((both more (ltb at i) t).0 d) (k d) n ++ h.done)
-            ∙ append_assoc rest ((48 + n % 10) ∷ []) h.done
-            ∙ ap (λ (x : ℕ). rest ++ x ∷ h.done) (sym e);
-        stands = ap (λ (x : List ℕ). set x (i - 1) g) (h.stands ∙ ap (λ (x : ℕ). with_text out₀ x h.done) j) ∙ with_before out₀ (i - 1) h.done g (omega arith);
-      }
+  module _ (g : ℕ) (l : at < i) (room : end ≤ length out₀) (e : g ≡ 48 + n % 10) where
+    owed : (t : Bool) → leb 10 n ≡ t → digits_of (end - at) n₀ ≡ cond t (digits_of (i - 1 - at) (n / 10)) [] ++ (g ∷ h.done)
+    unfolding digits_of
+    owed t b =
+        let k : i - at ≡ suc (i - 1 - at) = omega arith in
+        let rest = cond t (digits_of (i - 1 - at) (n / 10)) [] in
+        h.is
+        ∙ ap (λ (w : ℕ). digits_of w n ++ h.done) k
+        ∙ ap (λ (u : Bool). (cond u (digits_of (i - 1 - at) (n / 10)) [] ++ ((48 + n % 10) ∷ [])) ++ h.done) b
+        ∙ append_assoc rest ((48 + n % 10) ∷ []) h.done
+        ∙ ap (λ (x : ℕ). rest ++ x ∷ h.done) (sym e)
 
-  -- the number stands
-  none_owed : (t : Bool) → (t && ltb at i) ≡ false → owed t (i - at) n ≡ []
-  unfolding digits_of
-  none_owed true e = let k : i - at ≡ 0 = omega (arith, ltb-false at i e) in ap (λ (w : ℕ). digits_of w n) k
-  none_owed false e = refl
+    one_more : set out (i - 1) g ≡ with_text out₀ (i - 1) (g ∷ h.done)
+    one_more =
+        let j : i ≡ i - 1 + 1 = omega arith in
+        let p = h.place in
+        ap (λ (x : List ℕ). set x (i - 1) g) (h.stands ∙ ap (λ (x : ℕ). with_text out₀ x h.done) j) ∙ with_before out₀ (i - 1) h.done g (omega arith)
 
-  pub writing_done : (more && ltb at i) ≡ false → DigitsIs out₀ at end n₀ out i
-  writing_done t =
-      let d : digits_of (end - at) n₀ ≡ h.done = h.is ∙ ap (λ (x : List ℕ). x ++ h.done) (none_owed more t) in
-      record { first = omega (arith, h.place, ap length d); from = h.from; is = h.stands ∙ ap (with_text out₀ i) (sym d) }
+    pub writing_more : 10 ≤ n → Writing out₀ at end n₀ (set out (i - 1) g) (n / 10) (i - 1)
+    writing_more m = record { from = omega arith; done = g ∷ h.done; place = omega (arith, h.place); is = owed true (le-leb 10 n m); stands = one_more }
+
+    -- the number stands
+    pub writing_last : n < 10 → DigitsIs out₀ at end n₀ (set out (i - 1) g) (i - 1)
+    writing_last m =
+        let d = owed false (lt-leb 10 n m) in
+        record { first = omega (arith, h.place, ap length d); from = omega arith; is = one_more ∙ ap (with_text out₀ (i - 1)) (sym d) }
+
+  -- there is no place for more of it
+  pub writing_full : i ≤ at → DigitsIs out₀ at end n₀ out at
+  unfolding digits_of
+  writing_full l =
+      let e : i ≡ at = omega (arith, h.from) in
+      let k : i - at ≡ 0 = omega arith in
+      let d : digits_of (end - at) n₀ ≡ h.done = h.is ∙ ap (λ (w : ℕ). digits_of w n ++ h.done) k in
+      record { first = omega (arith, h.place, ap length d); from = omega arith; is = h.stands ∙ ap (λ (x : ℕ). with_text out₀ x h.done) e ∙ ap (with_text out₀ at) (sym d) }
 
 -- ---- the mark before them
 

@@ -2,11 +2,9 @@
 -- Assumes nothing.
 use mathlib.Core.Path.{◌≡◌, refl, sym, ap, ◌∙◌}
 use mathlib.Core.List.{List, [], ◌∷◌, ◌++◌, append_assoc, append-nil}
-use Prim.Native.Nat.{ℕ, ◌+◌, ◌-◌, ◌≤◌, ◌<◌}
-use native.Mathlib.Numerals.{add-one}
+use Prim.Native.Nat.{ℕ, ◌+◌, ◌-◌, ◌≤◌}
 use native.Mathlib.Omega.{arith}
-use lib.ListN.{length, take, drop, set, get_or, replicate, length-append, length-replicate, replicate-append-replicate, drop_of_length-le}
-use lib.Seq.{drop-cons}
+use lib.ListN.{length, take, drop, set, replicate, length-append, length-replicate, replicate-append-replicate}
 use Rattle.plan.specs.declared.types.Entry.{Entry}
 use Rattle.plan.specs.declared.types.Entry.TheVariants as entry
 use Rattle.plan.specs.Run.{entry_words}
@@ -16,22 +14,14 @@ use Rattle.lines.specs.Lines.{with_text, Blank, PutIs, total_of}
 use Rattle.lines.proofs.Texts.{with_length, with_again, with_over, with_next, middle}
 use Rattle.lines.proofs.Columns.{cell_length}
 
-pub next_width : (ws : List ℕ) (k : ℕ) → k < length ws → total_of (drop k ws) ≡ get_or ws k 0 + total_of (drop (k + 1) ws)
-unfolding total_of
-next_width ws k l = rw (add-one k, drop-cons ws k 0 l)
-
-next_cell : (ws xs : List ℕ) (k : ℕ) → k < length ws → k < length xs → row (drop k ws) (drop k xs) ≡ cell (get_or ws k 0) (get_or xs k 0) ++ row (drop (k + 1) ws) (drop (k + 1) xs)
-unfolding row
-next_cell ws xs k l m = rw (add-one k, drop-cons ws k 0 l, drop-cons xs k 0 m)
-
--- a row whose first k cells are written, over blanks
-pub record Filled (ws xs out₀ : List ℕ) (start : ℕ) (out : List ℕ) (at k : ℕ) : Type 0 where
-  pub few : k ≤ 11
+-- a row of which the widths vs and the words ys are still to come, over blanks
+pub record Filled (ws xs out₀ : List ℕ) (start : ℕ) (out : List ℕ) (at : ℕ) (vs ys : List ℕ) : Type 0 where
+  pub even : length vs ≡ length ys
   pub done : List ℕ
   pub place : at ≡ start + length done
-  pub room : length done + total_of (drop k ws) ≡ total_of ws
-  pub is : done ++ row (drop k ws) (drop k xs) ≡ row ws xs
-  pub stands : out ≡ with_text out₀ start (done ++ replicate (total_of (drop k ws)) space)
+  pub room : length done + total_of vs ≡ total_of ws
+  pub is : done ++ row vs ys ≡ row ws xs
+  pub stands : out ≡ with_text out₀ start (done ++ replicate (total_of vs) space)
 
 pub blanks_are : (ws out : List ℕ) (start n : ℕ) (out₀ : List ℕ) → n ≡ total_of ws → out₀ ≡ with_text out start (replicate (start + n - start) space) → out₀ ≡ with_text out start (replicate (total_of ws) space)
 blanks_are ws out start n out₀ i e = let m : start + n - start ≡ total_of ws = omega arith in e ∙ ap (λ (k : ℕ). with_text out start (replicate k space)) m
@@ -44,11 +34,11 @@ module _ (ws xs out : List ℕ) (start : ℕ) (fits : start + total_of ws + 1 �
   pub blank_same : length out₀ ≡ length out
   blank_same = ap length e ∙ with_length out start (replicate (total_of ws) space) room
 
-  pub filled_start : Filled ws xs out₀ start out₀ start 0
-  filled_start =
+  pub filled_start : length ws ≡ length xs → Filled ws xs out₀ start out₀ start ws xs
+  filled_start l =
       let bs = replicate (total_of ws) space in
       record {
-        few = omega arith;
+        even = l;
         done = [];
         place = omega arith;
         room = omega arith;
@@ -64,57 +54,45 @@ module _ (ws xs out : List ℕ) (start : ℕ) (fits : start + total_of ws + 1 �
         is = p.is ∙ ap (λ (o : List ℕ). with_text o start t) e ∙ with_again out start (replicate (total_of ws) space) room t (omega (arith, length-replicate (total_of ws) space));
       }
 
-module _ (ws xs : List ℕ) (lw : length ws ≡ 11) (lx : length xs ≡ 11) (out₀ : List ℕ) (start : ℕ) (fits : start + total_of ws + 1 ≤ length out₀) (out : List ℕ) (at k : ℕ) (h : Filled ws xs out₀ start out at k) where
-  pub filled_same : length out ≡ length out₀
-  filled_same =
-      let bs = replicate (total_of (drop k ws)) space in
-      ap length h.stands ∙ with_length out₀ start (h.done ++ bs) (omega (arith, fits, h.room, length-append h.done bs, length-replicate (total_of (drop k ws)) space))
-
+module _ (ws xs out₀ : List ℕ) (start : ℕ) (fits : start + total_of ws + 1 ≤ length out₀) (out : List ℕ) (at : ℕ) where
   -- the blanks that are left, the next column's first
-  module _ (l : k < 11) where
-    w : ℕ
-    w = get_or ws k 0
-
+  module _ (w y : ℕ) (vs ys : List ℕ) (h : Filled ws xs out₀ start out at (w ∷ vs) (y ∷ ys)) where
     rest : ℕ
-    rest = total_of (drop (k + 1) ws)
+    rest = total_of vs
 
     split : out ≡ with_text out₀ start (h.done ++ (replicate w space ++ replicate rest space))
-    unfolding w rest
-    split =
-        h.stands
-        ∙ ap (λ (n : ℕ). with_text out₀ start (h.done ++ replicate n space)) (next_width ws k (omega arith))
-        ∙ ap (λ (bs : List ℕ). with_text out₀ start (h.done ++ bs)) (sym (replicate-append-replicate w rest space))
+    unfolding rest total_of
+    split = h.stands ∙ ap (λ (bs : List ℕ). with_text out₀ start (h.done ++ bs)) (sym (replicate-append-replicate w rest space))
 
     total_is : length h.done + (w + rest) ≡ total_of ws
-    unfolding w rest
-    total_is = omega (arith, h.room, next_width ws k (omega arith))
+    unfolding rest total_of
+    total_is = h.room
 
     inside : start + length (h.done ++ (replicate w space ++ replicate rest space)) ≤ length out₀
     inside = omega (arith, fits, total_is, length-append h.done (replicate w space ++ replicate rest space), length-append (replicate w space) (replicate rest space), length-replicate w space, length-replicate rest space)
 
-    pub filled_blank : Blank out at (get_or ws k 0)
-    unfolding w
+    same : length out ≡ length out₀
+    same = ap length split ∙ with_length out₀ start (h.done ++ (replicate w space ++ replicate rest space)) inside
+
+    pub filled_blank : Blank out at w
     filled_blank =
         let wide = length-replicate w space in
         record {
-          room = omega (arith, fits, total_is, filled_same, h.place);
+          room = omega (arith, fits, total_is, same, h.place);
           blank = (λ i. take (sym wide i) (drop (h.place i) (split i))) ∙ middle out₀ start h.done (replicate w space) (replicate rest space) inside;
         }
 
-    pub filled_more : (out' : List ℕ) (at' : ℕ) → PutIs out at (cell (get_or ws k 0) (get_or xs k 0)) out' at' → Filled ws xs out₀ start out' at' (k + 1)
-    unfolding w rest
+    pub filled_more : (out' : List ℕ) (at' : ℕ) → PutIs out at (cell w y) out' at' → Filled ws xs out₀ start out' at' vs ys
+    unfolding rest row
     filled_more out' at' p =
-        let c = cell w (get_or xs k 0) in
-        let n = cell_length w (get_or xs k 0) in
+        let c = cell w y in
+        let n = cell_length w y in
         record {
-          few = omega arith;
+          even = omega (arith, h.even);
           done = h.done ++ c;
           place = omega (arith, p.next, h.place, length-append h.done c);
           room = omega (arith, length-append h.done c, n, total_is);
-          is =
-              append_assoc h.done c (row (drop (k + 1) ws) (drop (k + 1) xs))
-              ∙ ap (λ (t : List ℕ). h.done ++ t) (sym (next_cell ws xs k (omega arith) (omega arith)))
-              ∙ h.is;
+          is = append_assoc h.done c (row vs ys) ∙ h.is;
           stands =
               p.is
               ∙ (λ i. with_text (split i) (h.place i) c)
@@ -123,21 +101,21 @@ module _ (ws xs : List ℕ) (lw : length ws ≡ 11) (lx : length xs ≡ 11) (out
         }
 
   -- the row stands, and its end is put after it
-  module _ (l : 11 ≤ k) where
-    none : drop k ws ≡ []
-    none = drop_of_length-le ws {i = k} (omega arith)
-
+  module _ (h : Filled ws xs out₀ start out at [] []) where
     row_is : h.done ≡ row ws xs
     unfolding row
-    row_is = sym (append-nil h.done) ∙ ap (λ (d : List ℕ). h.done ++ row d (drop k xs)) (sym none) ∙ h.is
+    row_is = sym (append-nil h.done) ∙ h.is
 
     row_stands : out ≡ with_text out₀ start (row ws xs)
     unfolding total_of
-    row_stands = h.stands ∙ ap (λ (d : List ℕ). with_text out₀ start (h.done ++ replicate (total_of d) space)) none ∙ ap (with_text out₀ start) (append-nil h.done ∙ row_is)
+    row_stands = h.stands ∙ ap (with_text out₀ start) (append-nil h.done ∙ row_is)
 
     pub filled_end : at ≡ start + total_of ws
     unfolding total_of
-    filled_end = omega (arith, h.place, h.room, ap total_of none)
+    filled_end = omega (arith, h.place, h.room)
+
+    pub filled_long : length out ≡ length out₀
+    filled_long = ap length row_stands ∙ with_length out₀ start (row ws xs) (omega (arith, fits, filled_end, h.place, ap length row_is))
 
     pub line_long : total_of ws ≤ length (line ws xs)
     line_long = omega (arith, filled_end, h.place, ap length row_is, length-append (row ws xs) (newline ∷ []))

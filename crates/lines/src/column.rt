@@ -7,15 +7,12 @@ ghost use Rattle.lines.specs.Lines.{with_text, Blank, DigitsIs, PutIs};
 const WIDE: u8 = 21;
 
 // Blanks from one place to another: a line gets its blanks at once, so that a column writes nothing but its number.
+#[tactic(auto, unfolding(crate::specs::Lines::with_text))]
 pub(crate) fn blank(out: &mut [u8], at: usize, end: usize)
     requires { (at ≤ end) × (end ≤ length out.old) }
     ensures { out.new ≡ with_text out.old at (replicate (end - at) space) }
 {
-    let mut i = at;
-    while i < end {
-        out[i] = b' ';
-        i = i + 1;
-    }
+    out[at..end].fill(b' ');
 }
 
 // In the other columns a word from 2^63 on stands for a negative number.
@@ -47,15 +44,14 @@ fn digits(out: &mut [u8], at: usize, end: usize, x: u64) -> usize
     ensures { DigitsIs out.old at end x out.new result }
 {
     let mut n = x;
-    let mut more = true;
-    let mut i = end;
-    while more & (at < i) {
-        i = i - 1;
+    for i in (at..end).rev() {
         out[i] = digit(n);
-        more = 10 <= n;
-        n = n / 10;
+        if n < 10 {
+            return i;
+        }
+        n /= 10;
     }
-    i
+    at
 }
 
 // A word in `width` places that are blank; the place after them.
@@ -63,8 +59,8 @@ pub(crate) fn put(out: &mut [u8], at: usize, width: u8, x: u64) -> usize
     requires { Blank out.old at width }
     ensures { PutIs out.old at (cell width x) out.new result }
 {
-    let end = at + width as usize;
-    let first = digits(&mut *out, at, end, magnitude(width, x));
+    let end = at + usize::from(width);
+    let first = digits(out, at, end, magnitude(width, x));
     if is_negative(width, x) & (at < first) {
         out[first - 1] = b'-';
     }

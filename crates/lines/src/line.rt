@@ -7,22 +7,14 @@ use crate::column::{blank, put};
 use plan::{End, Entry};
 use words::{end_words, entry_words};
 
-// By a call no proof is owed that an element of an array fits.
-fn wide(x: u8) -> usize
-    ensures { (result ≡ x) × (result ≤ 255) }
-{
-    x as usize
-}
-
 // The places of a row.
+#[tactic(auto, unfolding(crate::specs::Lines::total_of))]
 fn total(widths: [u8; 11]) -> usize
     ensures { result ≡ total_of widths }
 {
     let mut sum: usize = 0;
-    let mut k: usize = 0;
-    while k < 11 {
-        sum = sum + wide(widths[k]);
-        k = k + 1;
+    for width in widths {
+        sum += usize::from(width);
     }
     sum
 }
@@ -32,12 +24,10 @@ fn row(out: &mut [u8], start: usize, widths: [u8; 11], words: [u64; 11]) -> usiz
     requires { start + total_of widths + 1 ≤ length out.old }
     ensures { PutIs out.old start (line widths words) out.new result }
 {
-    blank(&mut *out, start, start + total(widths));
+    blank(out, start, start + total(widths));
     let mut at = start;
-    let mut k: usize = 0;
-    while k < 11 {
-        at = put(&mut *out, at, widths[k], words[k]);
-        k = k + 1;
+    for (width, word) in widths.iter().zip(&words) {
+        at = put(out, at, *width, *word);
     }
     out[at] = b'\n';
     at + 1
@@ -61,7 +51,7 @@ pub fn entry_line(out: &mut [u8], at: usize, e: Entry) -> usize
     requires { at + 128 ≤ length out.old }
     ensures { PutIs out.old at (entry_text e) out.new result }
 {
-    row(&mut *out, at, widths_of(e), entry_words(e))
+    row(out, at, widths_of(e), entry_words(e))
 }
 
 pub fn end_line(out: &mut [u8], at: usize, e: End) -> usize
@@ -69,7 +59,7 @@ pub fn end_line(out: &mut [u8], at: usize, e: End) -> usize
     ensures { PutIs out.old at (end_text e) out.new result }
 {
     row(
-        &mut *out,
+        out,
         at,
         [2, 8, 8, 8, 8, 0, 0, 0, 0, 0, 0],
         end_words(e),

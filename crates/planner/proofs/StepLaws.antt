@@ -17,7 +17,7 @@ use Rattle.plan.specs.Run.{bank_step, bank_after}
 use Rattle.plan.specs.Steps.{Coming, next_of, answer_of, bank_next}
 use Rattle.copy.specs.declared.types.Stage.{Stage}
 use Rattle.copy.specs.declared.types.Place.{Place}
-use Rattle.copy.specs.declared.types.CopyNext.TheVariants as copied
+use Rattle.copy.specs.declared.types.CopyEnd.TheVariants as copied
 use Rattle.copy.specs.Walk as walk
 use Rattle.copy.specs.Walk.{copy_next_of}
 use Rattle.copy.specs.Small.{next_in}
@@ -118,20 +118,20 @@ counts_at_end p none = ap (λ (es : List Entry). end_with (counted_all p.counts 
 
 module _ (s : Stage) (p : Place) (h : walk.SoundAt s p) where
   -- what the walk answers, by its constructor
-  pub copy_given : (e : Entry) (s' : Stage) (p' : Place) → copy_next_of s p ≡ copied.Entry e s' p'
+  pub copy_given : (e : Entry) (s' : Stage) (p' : Place) → copy_next_of s p ≡ Ok (e, s', p')
       → (coming_copy s p ≡ cons e (coming_copy s' p')) × (EntryIn e × (walk.SoundAt s' p' × (suc (left_copy s' p') ≤ left_copy s p)))
   copy_given e s' p' i =
       let f = rw i at (copy_follows s p h) in
       let k = rw i at (copy_kept s p h) in
       (f, (rw i at (next_in s p h), (k.sound, k.less)))
 
-  pub copy_too_big : copy_next_of s p ≡ copied.TooBig → coming_copy s p ≡ ended [] verdict.TooBig
+  pub copy_too_big : copy_next_of s p ≡ Err copied.TooBig → coming_copy s p ≡ ended [] verdict.TooBig
   copy_too_big i = rw i at (copy_follows s p h)
 
-  pub copy_overflow : (e : Entry) → copy_next_of s p ≡ copied.Overflow e → (coming_copy s p ≡ ended (e ∷ []) verdict.Address) × Narrow e
+  pub copy_overflow : (e : Entry) → copy_next_of s p ≡ Err (copied.Overflow e) → (coming_copy s p ≡ ended (e ∷ []) verdict.Address) × Narrow e
   copy_overflow e i = (rw i at (copy_follows s p h), rw i at (next_in s p h))
 
-  pub copy_finished : copy_next_of s p ≡ copied.Finished → coming_copy s p ≡ ended [] verdict.Finished
+  pub copy_finished : copy_next_of s p ≡ Err copied.Finished → coming_copy s p ≡ ended [] verdict.Finished
   copy_finished i = rw i at (copy_follows s p h)
 
 -- ---- scaled

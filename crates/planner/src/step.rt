@@ -5,7 +5,7 @@ ghost use Rattle.words.specs.Counts.{Countable};
 ghost use Rattle.planner.specs.Coming.{Sound, StepGives, StepIs, give_of, stop_of, refuse_of};
 
 use crate::types::{Course, Given, Planner, Step, Stepped};
-use copy::CopyNext;
+use copy::CopyEnd;
 use loads::Refused;
 use object::Verdict;
 use plan::{Answer, Entry};
@@ -51,10 +51,10 @@ fn copy_step(stage: copy::Stage, place: copy::Place, n: Counts) -> Step
     ensures { StepGives (record { course = Course.Copy stage place; counts = n }) result }
 {
     match copy::copy_next(stage, place) {
-        CopyNext::Entry(entry, s, p) => give(Course::Copy(s, p), n, entry),
-        CopyNext::TooBig => stop(n, Verdict::TooBig),
-        CopyNext::Overflow(size) => refuse(n, size),
-        CopyNext::Finished => stop(n, Verdict::Finished),
+        Ok((entry, s, p)) => give(Course::Copy(s, p), n, entry),
+        Err(CopyEnd::TooBig) => stop(n, Verdict::TooBig),
+        Err(CopyEnd::Overflow(size)) => refuse(n, size),
+        Err(CopyEnd::Finished) => stop(n, Verdict::Finished),
     }
 }
 
@@ -63,7 +63,6 @@ fn scaled_step(stage: loads::Stage, place: loads::Place, n: Counts) -> Step
     ensures { StepGives (record { course = Course.Scaled stage place; counts = n }) result }
 {
     match passes::scaled_next(stage, place) {
-        // A course for both answers of a pass would be made in memory at every step.
         // A course for both answers of a pass would be made in memory at every step.
         Ok((entry, Ok((stage, place)))) => give(Course::Scaled(stage, place), n, entry),
         Ok((entry, Err(v))) => give(Course::Over(v), n, entry),

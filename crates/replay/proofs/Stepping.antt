@@ -2,6 +2,7 @@
 -- Assumes nothing.
 use mathlib.Core.Path.{◌≡◌, refl, sym, ap, subst, ◌∙◌}
 use mathlib.Core.List.{List, [], ◌∷◌, ◌++◌, append_assoc, append-nil}
+use Rattle.std.specs.Prelude.{Option, Some, None}
 use Prim.Native.Nat.{ℕ, zero, suc, ◌+◌, ◌-◌, ◌*◌, ◌/◌, ◌<◌, ◌≤◌}
 use native.Mathlib.Numerals.{add-one}
 use native.Mathlib.Omega.{arith}
@@ -29,8 +30,6 @@ use Rattle.planner.specs.declared.types.Given.{Given}
 use Rattle.planner.specs.declared.types.Given.TheVariants as given
 use Rattle.planner.specs.Coming.{Sound, StepGives, StepIs, coming, answer_in, GivenIn}
 use Rattle.replay.specs.declared.outcome.Outcome.{Outcome}
-use Rattle.replay.specs.declared.record.Mixed.{Mixed}
-use Rattle.replay.specs.declared.record.Mixed.TheVariants as mixed
 use Rattle.replay.specs.declared.steps.Digests.{Digests}
 use Rattle.replay.specs.Outcome.{outcome_of}
 use Rattle.banks.specs.Narrows.{AllNarrow}
@@ -64,27 +63,22 @@ pub record Under (k : Coming) (b : Bank) (h : ℕ) (p : Planner) (c : Bank) (g e
 pub under_start : (p : Planner) → Sound p → (b : Bank) (h : ℕ) → Under (coming p) b h p b h 0
 under_start p s b h = record { sound = s; few = omega arith; none = λ l. absurd (omega arith); answered = refl; banked = refl }
 
-pub one_end : (a : Answer) → ends_in a ≤ 1
-unfolding ends_in
-one_end (answer.Entry e) = omega arith
-one_end (answer.End e) = omega arith
-
 -- one step, in terms of what was to come
-record Next (es left : List Entry) (e : End) (b : Bank) (ends n : ℕ) : Type 0 where
-  few : ends + n ≤ 4
-  none : 0 < ends + n → (next_of es left e).entries ≡ []
-  answered : answers_words (answers (length es + (4 - ends)) es e) ≡ answer_words (answer_of es e) ++ answers_words (all_answers (4 - (ends + n)) (next_of es left e))
-  banked : bank_to (length es + (4 - ends)) es left b ≡ last_bank (4 - (ends + n)) (next_of es left e) (bank_next es left b)
-  less : length (next_of es left e).entries + (4 - (ends + n)) < length es + (4 - ends)
+record Next (es left : List Entry) (e : End) (b : Bank) (ends after : ℕ) : Type 0 where
+  few : after ≤ 4
+  none : 0 < after → (next_of es left e).entries ≡ []
+  answered : answers_words (answers (length es + (4 - ends)) es e) ≡ answer_words (answer_of es e) ++ answers_words (all_answers (4 - after) (next_of es left e))
+  banked : bank_to (length es + (4 - ends)) es left b ≡ last_bank (4 - after) (next_of es left e) (bank_next es left b)
+  less : length (next_of es left e).entries + (4 - after) < length es + (4 - ends)
 
-next_is : (es left : List Entry) (e : End) (b : Bank) (ends n : ℕ) → ends < 4 → (0 < ends → es ≡ []) → n ≡ ends_in (answer_of es e) → Next es left e b ends n
+next_is : (es left : List Entry) (e : End) (b : Bank) (ends after : ℕ) → ends < 4 → (0 < ends → es ≡ []) → after ≡ ends + ends_in (answer_of es e) → Next es left e b ends after
 unfolding ends_in answers answers_words bank_to
-next_is [] left e b ends n h f i =
-    let z : length {A = Entry} [] + (4 - ends) ≡ suc (length {A = Entry} [] + (4 - (ends + n))) = omega arith in
+next_is [] left e b ends after h f i =
+    let z : length {A = Entry} [] + (4 - ends) ≡ suc (length {A = Entry} [] + (4 - after)) = omega arith in
     record { few = omega arith; none = λ l. refl; answered = rw z; banked = rw z; less = omega arith }
-next_is (x ∷ es) left e b ends n h f i =
+next_is (x ∷ es) left e b ends after h f i =
     let o = first (x ∷ es) ends f (longer x es) in
-    let z : length (x ∷ es) + (4 - ends) ≡ suc (length es + (4 - (ends + n))) = omega (arith, longer x es) in
+    let z : length (x ∷ es) + (4 - ends) ≡ suc (length es + (4 - after)) = omega (arith, longer x es) in
     record { few = omega arith; none = λ l. absurd (omega arith); answered = rw z; banked = rw z; less = omega (arith, longer x es) }
   where
     longer : (x : Entry) (es : List Entry) → length (x ∷ es) ≡ suc (length es)
@@ -94,11 +88,11 @@ next_is (x ∷ es) left e b ends n h f i =
     first l zero f k = refl
     first l (suc n) f k = absurd (omega (arith, ap length (f (omega arith))))
 
-module _ (k : Coming) (b : Bank) (h : ℕ) (p : Planner) (c : Bank) (g ends : ℕ) (u : Under k b h p c g ends) (more : ends < 4) (s : Stepped) (i : StepIs p c s) (n : ℕ) (is : n ≡ ends_in s.answer) where
-  next : Next (coming p).entries (coming p).left (coming p).end c ends n
-  next = next_is _ _ _ c ends n more u.none (is ∙ ap ends_in i.answer)
+module _ (k : Coming) (b : Bank) (h : ℕ) (p : Planner) (c : Bank) (g ends : ℕ) (u : Under k b h p c g ends) (more : ends < 4) (s : Stepped) (i : StepIs p c s) (after : ℕ) (is : after ≡ ends + ends_in s.answer) where
+  next : Next (coming p).entries (coming p).left (coming p).end c ends after
+  next = next_is _ _ _ c ends after more u.none (is ∙ ap (λ (a : Answer). ends + ends_in a) i.answer)
 
-  pub under_more : (g' : ℕ) → g' ≡ digest_from g (answer_words s.answer) → Under k b h s.planner s.bank g' (ends + n)
+  pub under_more : (g' : ℕ) → g' ≡ digest_from g (answer_words s.answer) → Under k b h s.planner s.bank g' after
   under_more g' e =
       record {
         sound = i.sound;
@@ -110,7 +104,7 @@ module _ (k : Coming) (b : Bank) (h : ℕ) (p : Planner) (c : Bank) (g ends : �
         banked = rw (i.rest, i.bank) (sym next.banked ∙ u.banked);
       }
 
-  pub under_less : length (coming s.planner).entries + (4 - (ends + n)) < length (coming p).entries + (4 - ends)
+  pub under_less : length (coming s.planner).entries + (4 - after) < length (coming p).entries + (4 - ends)
   under_less = rw i.rest next.less
 
 -- four ends are answered
@@ -215,14 +209,14 @@ unfolding end_of
 entries_are p end e = ap (λ (x : End). x.entries) e
 
 module _ (p : Plan) (room chunk : ℕ) (b : Bank) (run : Outcome) (end : End) (steps : Digests) (r : run ≡ outcome_of p room (bank_numbers b)) (e : end ≡ end_of p) (s : steps ≡ stepped_of p b) where
-  all_is : (d : Mixed) → d ≡ mixed_of p chunk b → record { run = run; end = end; steps = steps; mixed = d } ≡ replayed_of p room chunk b
+  all_is : (d : Option Digests) → d ≡ mixed_of p chunk b → record { run = run; end = end; steps = steps; mixed = d } ≡ replayed_of p room chunk b
   unfolding replayed_of
   all_is d i = λ j. record { run = r j; end = e j; steps = s j; mixed = i j }
 
-  pub replayed_cut : chunk / 11 < end.entries → (d : Digests) → d ≡ stepped_of p b → record { run = run; end = end; steps = steps; mixed = mixed.Cut d } ≡ replayed_of p room chunk b
+  pub replayed_cut : chunk / 11 < end.entries → (d : Digests) → d ≡ stepped_of p b → record { run = run; end = end; steps = steps; mixed = Some d } ≡ replayed_of p room chunk b
   unfolding mixed_of
-  replayed_cut h d i = all_is (mixed.Cut d) (ap mixed.Cut i ∙ rw (lt-ltb (chunk / 11) (length p.entries) (omega (arith, entries_are p end e))))
+  replayed_cut h d i = all_is (Some d) (ap Some i ∙ rw (lt-ltb (chunk / 11) (length p.entries) (omega (arith, entries_are p end e))))
 
-  pub replayed_whole : end.entries ≤ chunk / 11 → record { run = run; end = end; steps = steps; mixed = mixed.Whole } ≡ replayed_of p room chunk b
+  pub replayed_whole : end.entries ≤ chunk / 11 → record { run = run; end = end; steps = steps; mixed = None } ≡ replayed_of p room chunk b
   unfolding mixed_of
-  replayed_whole h = all_is mixed.Whole (rw (le-ltb (chunk / 11) (length p.entries) (omega (arith, entries_are p end e))))
+  replayed_whole h = all_is None (rw (le-ltb (chunk / 11) (length p.entries) (omega (arith, entries_are p end e))))

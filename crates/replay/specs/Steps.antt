@@ -1,6 +1,6 @@
 -- What steps with a bank answer: digests of the answers, to the end and three steps beyond it, and of the bank after them; and all that is replayed of a record.
 -- Assumes nothing.
-use Rattle.std.specs.Prelude.{cond, List, [], ◌∷◌, ◌++◌, ℕ, ◌+◌, ◌/◌, ltb, length}
+use Rattle.std.specs.Prelude.{cond, Option, Some, None, List, [], ◌∷◌, ◌++◌, ℕ, ◌+◌, ◌/◌, ltb, length}
 use Rattle.tile.specs.declared.bank.Bank.{Bank}
 use Rattle.plan.specs.declared.types.Entry.{Entry}
 use Rattle.plan.specs.declared.types.Answer.{Answer}
@@ -11,8 +11,6 @@ use Rattle.plan.specs.Steps.{Coming, coming_of, answers, bank_to}
 use Rattle.giving.specs.Host.{bank_numbers, end_numbers}
 use Rattle.digest.specs.Fnv.{basis, digest_from, digest_of}
 use Rattle.replay.specs.declared.steps.Digests.{Digests}
-use Rattle.replay.specs.declared.record.Mixed.{Mixed}
-use Rattle.replay.specs.declared.record.Mixed.TheVariants as mixed
 use Rattle.replay.specs.declared.record.Replayed.{Replayed}
 use Rattle.replay.specs.Outcome.{outcome_of}
 
@@ -44,8 +42,8 @@ abbrev pub stepped_of : Plan → Bank → Digests
 stepped_of p b = stepped_from basis (coming_of p) b
 
 -- where a plan is longer than a chunk of so many words, a run into the chunk and then steps answer what the steps alone answer
-unfoldable pub mixed_of : Plan → (chunk : ℕ) → Bank → Mixed
-mixed_of p chunk b = cond (ltb (chunk / 11) (length p.entries)) (mixed.Cut (stepped_of p b)) mixed.Whole
+unfoldable pub mixed_of : Plan → (chunk : ℕ) → Bank → Option Digests
+mixed_of p chunk b = cond (ltb (chunk / 11) (length p.entries)) (Some (stepped_of p b)) None
 
 unfoldable pub replayed_of : Plan → (room chunk : ℕ) → Bank → Replayed
 replayed_of p room chunk b = record { run = outcome_of p room (bank_numbers b); end = end_of p; steps = stepped_of p b; mixed = mixed_of p chunk b }

@@ -18,10 +18,8 @@ pub(crate) fn bank_of(bytes: &[u8]) -> [u64; 136]
     ensures { result ≡ words_in 136 bytes.now }
 {
     let mut numbers = [0u64; 136];
-    let mut k: usize = 0;
-    while k < 136 {
+    for k in 0..136 {
         numbers[k] = field_from(bytes, 8 * k, 8);
-        k = k + 1;
     }
     numbers
 }
@@ -31,22 +29,7 @@ fn at_most(s: &[u8], at: usize, n: usize, most: usize) -> usize
     requires { Held s.now at n }
     ensures { result ≡ min most (read s.now at n) }
 {
-    let x = field_from(s, at, n) as usize;
-    if x < most { x } else { most }
-}
-
-// Room for every plan of the list. The promise is what lending a part needs.
-fn buffer() -> [u64; 2816]
-    ensures { 2816 ≡ length result }
-{
-    [0; 2816]
-}
-
-// Room for every chunk.
-fn chunk() -> [u64; 121]
-    ensures { 121 ≡ length result }
-{
-    [0; 121]
+    most.min(field_from(s, at, n) as usize)
 }
 
 // What a record asks besides its object. It is longer than a case, so the case is never short.
@@ -80,8 +63,9 @@ pub(crate) fn record_replayed(bytes: &[u8], stored: [u64; 136]) -> Replayed
     let room = at_most(bytes, 62, 2, 2816);
     let short = room % 121;
     let q = asked(bytes);
-    let mut plan = buffer();
-    let mut part = chunk();
+    // Room for every plan of the list, and for every chunk.
+    let mut plan = [0; 2816];
+    let mut part = [0; 121];
     run_and_step(
         &bytes[..count],
         q,

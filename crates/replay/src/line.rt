@@ -1,5 +1,5 @@
 // The line of a record: numbers in decimal, digests as 16 hexadecimal digits.
-use crate::record::{Mixed, Replayed};
+use crate::record::Replayed;
 use crate::steps::Digests;
 use plan::End;
 use std::fmt;
@@ -39,8 +39,8 @@ impl fmt::Display for Replayed {
         let steps = self.steps;
         write!(f, "{run_end} {run_digests} {end} {steps}")?;
         match self.mixed {
-            Mixed::Whole => Ok(()),
-            Mixed::Cut(mixed) => write!(f, " {mixed}"),
+            Some(mixed) => write!(f, " {mixed}"),
+            None => Ok(()),
         }
     }
 }

@@ -23,18 +23,11 @@ fn bank(rt: &impl Files) -> io::Result<[u64; 136]> {
 }
 
 fn replay(rt: &(impl Files + Alloc + Print)) -> Result<(), Failure> {
-    let bank = match bank(rt) {
-        Ok(bank) => bank,
-        Err(e) => return Err(Failure::Bank(e)),
-    };
-    let records = match fs::read(rt, "records") {
-        Ok(records) => records,
-        Err(e) => return Err(Failure::Records(e)),
-    };
+    let bank = bank(rt).map_err(Failure::Bank)?;
+    let records = fs::read(rt, "records").map_err(Failure::Records)?;
     for record in records.chunks_exact(64) {
-        if let Err(e) = rt.println(record_replayed(record, bank)) {
-            return Err(Failure::Output(e));
-        }
+        rt.println(record_replayed(record, bank))
+            .map_err(Failure::Output)?;
     }
     Ok(())
 }

@@ -11,20 +11,13 @@ use banks::{bank_from, words_of};
 use plan::End;
 use request::Request;
 
-// A plan with no entry beyond the chunk is not cut.
-#[derive(Clone, Copy)]
-pub enum Mixed {
-    Whole,
-    Cut(Digests),
-}
-
-// A run, the end of the whole plan, its steps, and a run and steps mixed.
+// A run, the end of the whole plan, its steps, and a run and steps mixed, if the plan has an entry beyond the chunk.
 #[derive(Clone, Copy)]
 pub struct Replayed {
     pub run: Outcome,
     pub end: End,
     pub steps: Digests,
-    pub mixed: Mixed,
+    pub mixed: Option<Digests>,
 }
 
 pub(crate) fn run_and_step(
@@ -38,13 +31,13 @@ pub(crate) fn run_and_step(
 {
     let bank = bank_from(&stored);
     let mut words = words_of(bank);
-    let run = run_into(object, q, &mut words, &mut *plan);
+    let run = run_into(object, q, &mut words, plan);
     let end = runs::count(object, q.opcode, q.scissor, q.mode, q.address);
     let steps = stepped(object, q, bank);
     let mixed = if ((chunk.len() / 11) as u64) < end.entries {
-        Mixed::Cut(mixed(object, q, &stored, &mut *chunk))
+        Some(mixed(object, q, &stored, chunk))
     } else {
-        Mixed::Whole
+        None
     };
     Replayed {
         run,

@@ -5,7 +5,7 @@ ghost use Rattle.giving.specs.Host.{bank_from};
 ghost use Rattle.digest.specs.Fnv.{digest_from};
 ghost use Rattle.planner.specs.Coming.{Sound, coming};
 ghost use Rattle.request.specs.Host.{with_bytes};
-ghost use Rattle.replay.specs.Steps.{answer_words, stepped_from, stepped_of, ends_in};
+ghost use Rattle.replay.specs.Steps.{answer_words, stepped_from, stepped_of};
 ghost use Rattle.replay.specs.Passed.{Passed};
 
 use banks::{bank_from, words_of};
@@ -42,16 +42,6 @@ fn answer_into(hash: u64, a: Answer) -> u64
     }
 }
 
-#[tactic(auto, unfolding(crate::specs::Steps::ends_in))]
-fn ends_in(a: Answer) -> u64
-    ensures { result ≡ ends_in a }
-{
-    match a {
-        Answer::Entry(_) => 0,
-        Answer::End(_) => 1,
-    }
-}
-
 // To the end, and three steps beyond it.
 fn steps_from(start: Planner, bank: Bank, before: u64) -> Digests
     requires { Sound start }
@@ -65,7 +55,9 @@ fn steps_from(start: Planner, bank: Bank, before: u64) -> Digests
         let s = p.step_with(b);
         let answer = s.answer;
         answers = answer_into(answers, answer);
-        ends = ends + ends_in(answer);
+        if let Answer::End(_) = answer {
+            ends += 1;
+        }
         p = s.planner;
         b = s.bank;
     }
@@ -87,11 +79,8 @@ fn pass_over(start: Planner, n: u64) -> Planner
     ensures { Passed n (coming start) result }
 {
     let mut p = start;
-    let mut i: u64 = 0;
-    while i < n {
-        let s = p.step();
-        p = s.planner;
-        i = i + 1;
+    for _ in 0..n {
+        p = p.step().planner;
     }
     p
 }
@@ -103,13 +92,7 @@ pub(crate) fn mixed(object: &[u8], q: Request, stored: &[u64], chunk: &mut [u64]
 {
     let mut words = words_of(bank_from(stored));
     let end = runs::run(
-        object,
-        q.opcode,
-        q.scissor,
-        q.mode,
-        q.address,
-        &mut words,
-        &mut *chunk,
+        object, q.opcode, q.scissor, q.mode, q.address, &mut words, chunk,
     );
     let n = 11 * end.entries as usize;
     let before = digest(&chunk[..n]);

@@ -8,7 +8,7 @@ ghost use Rattle.ruler.specs.Drifts.{SoundRuler, SoundPlace, place_of, apt_in, r
 
 use crate::types::{Found, Place, Ruler};
 use measures::{Quarters, Scale, ThirtySeconds};
-use object::{Checked, ObjBg, Scissor};
+use object::{Background, ObjBg, Scissor};
 use plan::{Clip, First, Scaled, Start};
 
 // Where the frame starts in the image: the clipped top is sampled.
@@ -73,9 +73,8 @@ pub fn ruler_of(object: &[u8], opcode: u8, scissor: Scissor, mode: u32, address:
     ensures { FoundIs (request_of object.now opcode scissor mode address) result }
 {
     match checks::checked(object, opcode, scissor) {
-        Checked::Scaled(bg) => scaled_found(bg, scissor, mode, address),
-        Checked::Copy(_) => Found::Nothing,
-        Checked::Refused(_) => Found::Nothing,
+        Ok(Background::Scaled(bg)) => scaled_found(bg, scissor, mode, address),
+        Ok(Background::Copy(_)) | Err(_) => Found::Nothing,
     }
 }
 

@@ -3,7 +3,7 @@ ghost use Rattle.checks.specs.Known.{PassedCopy, PassedScaled};
 ghost use Rattle.planner.specs.Coming.{Fresh, StartsCopy, StartsScaled};
 
 use copy::{Due, Stage};
-use object::{Checked, ObjBg, Scissor, Verdict};
+use object::{Background, ObjBg, Scissor, Verdict};
 use planner::{Course, Planner};
 use words::Counts;
 
@@ -42,9 +42,9 @@ pub fn fresh(object: &[u8], opcode: u8, scissor: Scissor, mode: u32, address: u6
     ensures { Fresh object.now opcode scissor mode address result }
 {
     let course = match checks::checked(object, opcode, scissor) {
-        Checked::Copy(bg) => copy_course(bg, scissor, address),
-        Checked::Scaled(bg) => scaled_course(bg, scissor, mode, address),
-        Checked::Refused(v) => Course::Over(v),
+        Ok(Background::Copy(bg)) => copy_course(bg, scissor, address),
+        Ok(Background::Scaled(bg)) => scaled_course(bg, scissor, mode, address),
+        Err(v) => Course::Over(v),
     };
     let counts = Counts {
         entries: 0,

@@ -31,9 +31,9 @@ fn width_at(c: Copy, x: u64, sx: u64) -> u64
     ensures { result ≡ width_of c x sx }
 {
     if c.flip {
-        signed::least(c.width - x, sx + 1)
+        (c.width - x).min(sx + 1)
     } else {
-        signed::least(c.width - x, c.image_width - sx)
+        (c.width - x).min(c.image_width - sx)
     }
 }
 
@@ -116,5 +116,5 @@ pub fn strip_height(c: Copy, y: u64, sy: u64) -> u64
     requires less { Less (strip_row_of c y) c.image_height sy }
     ensures { HeightIs c y sy result }
 {
-    signed::least(signed::least(c.rows, c.height - y), c.image_height - sy)
+    c.rows.min(c.height - y).min(c.image_height - sy)
 }

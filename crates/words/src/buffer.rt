@@ -7,11 +7,7 @@ pub fn put(to: &mut [u64], at: usize, from: &[u64])
     requires { at + length from.now ≤ length to.old }
     ensures { to.new ≡ paste to.old at from.now (length from.now) }
 {
-    let mut j: usize = 0;
-    while j < from.len() {
-        to[at + j] = from[j];
-        j = j + 1;
-    }
+    to[at..at + from.len()].copy_from_slice(from);
 }
 
 // Eleven words.
@@ -19,5 +15,5 @@ pub fn store(plan: &mut [u64], at: usize, words: [u64; 11])
     requires { at + 11 ≤ length plan.old }
     ensures { plan.new ≡ paste plan.old at words 11 }
 {
-    put(&mut *plan, at, &words);
+    plan[at..at + 11].copy_from_slice(&words);
 }

@@ -5,7 +5,6 @@ ghost use Rattle.words.specs.Counts.{Countable, counted_of, end_with};
 
 use object::Verdict;
 use plan::{End, Entry};
-use signed::most;
 
 // What an end tells of the entries before it, and `line`, tile 7's as they set it.
 #[derive(Clone, Copy)]
@@ -32,7 +31,7 @@ pub fn counted(n: Counts, e: Entry) -> Counts
             }
         }
         Entry::Load { rows, .. } => {
-            next.words = most(n.words, rows * n.line);
+            next.words = n.words.max(rows * n.line);
         }
         Entry::Rect { .. } => {
             next.rectangles = n.rectangles + 1;

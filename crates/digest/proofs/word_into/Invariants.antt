@@ -1,10 +1,8 @@
--- The n bytes to come lead to the whole word.
-use Rattle.std.proofs.Common.{◌≡◌, ◌≤◌}
-use Rattle.digest.specs.Fnv.{word_into}
+-- The bytes to come lead to the whole word.
+use Rattle.std.proofs.Common.{◌≡◌, drop}
+use Rattle.std.specs.List.{fold}
+use Rattle.digest.specs.Fnv.{fnv1a}
 use Rattle.digest.proofs.word_into.Given as goal
 
-abbrev pub invariant-loop-n : goal.invariant-loop-n
-invariant-loop-n l = (l.n ≤ 8) × (word_into l.n l.w l.hash ≡ word_into 8 l.w l.fn.h)
-
-abbrev pub decreases-loop-n : goal.decreases-loop-n
-decreases-loop-n l = l.n
+abbrev pub invariant-loop-byte : goal.invariant-loop-byte
+invariant-loop-byte l = fold fnv1a l.hash (drop l.byte-index l.byte-items) ≡ fold fnv1a l.fn.h l.byte-items

@@ -13,7 +13,7 @@ columns-init c =
 pub columns-preserved : goal.columns-preserved
 columns-preserved c =
     strip_counted c.requires.sound_copy c.rows-test.true c.strip_height-strip_height.ensures.rows c.columns.invariant c.columns-test.true c.strip_from-strip.ensures c.if-c-size.false
-    c.requires.wrap_value (sym c.refused.ensures ∙ c.if-refused.false) c.most-words.ensures
+    c.requires.wrap_value (sym c.refused.ensures ∙ c.if-refused.false) c.max-words.ensures
 
 pub rows-preserved : goal.rows-preserved
 rows-preserved c =

@@ -6,13 +6,12 @@ use Rattle.replay.proofs.files.bank_of.Goals as goal
 
 pub loop-k-init : goal.loop-k-init
 unfolding words_in
-loop-k-init c = record { few = omega arith; long = refl; words = refl }
+loop-k-init c = record { long = refl; words = refl }
 
 pub loop-k-preserved : goal.loop-k-preserved
 loop-k-preserved c =
     let l = c.loop-k in
     record {
-      few = omega arith;
       long = length-set l.numbers l.k c.field_from.result ∙ l.invariant.long;
       words = next_word c.args.bytes.now l.numbers l.k c.field_from.result (omega arith) l.invariant.words c.field_from.ensures.is;
     }

@@ -1,15 +1,11 @@
 -- The first k words are those of the file.
-use Rattle.std.proofs.Common.{◌≡◌, ◌≤◌, ◌-◌, List, ℕ, length, take}
+use Rattle.std.proofs.Common.{◌≡◌, List, ℕ, length, take}
 use Rattle.replay.specs.Outcome.{words_in}
 use Rattle.replay.proofs.files.bank_of.Given as goal
 
 pub record Read (bytes numbers : List ℕ) (k : ℕ) : Type 0 where
-  pub few : k ≤ 136
   pub long : length numbers ≡ 136
   pub words : take k numbers ≡ words_in k bytes
 
 abbrev pub invariant-loop-k : goal.invariant-loop-k
 invariant-loop-k l = Read l.bytes l.numbers l.k
-
-abbrev pub decreases-loop-k : goal.decreases-loop-k
-decreases-loop-k l = 136 - l.k
