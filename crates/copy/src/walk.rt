@@ -147,10 +147,10 @@ fn first_texel(flip: bool, load_width: u64, offset: u64) -> i64
 {
     if flip {
         let s = measures::of_rows(-(load_width as i64));
-        signed::wide(signed::signed16(s.0))
+        i64::from(signed::signed16(s.0))
     } else {
         let s = measures::of_rows(offset as i64);
-        signed::wide(signed::signed16(s.0))
+        i64::from(signed::signed16(s.0))
     }
 }
 

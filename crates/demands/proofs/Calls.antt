@@ -1,6 +1,6 @@
 -- Any number of calls, each on the words that the one before it left, whatever lies between them: the words of the plan's entries, one a call, then of its end for ever.
 -- Assumes nothing.
-use Rattle.std.specs.Prelude.{◌≡◌, refl, List, [], ◌∷◌, ℕ, length}
+use Rattle.std.specs.Prelude.{◌≡◌, refl, List, [], ◌∷◌, ℕ, length, Option, Some, None}
 use Rattle.std.proofs.Common.{sym, ap, ◌∙◌, subst, arith, eq-eqb}
 use Rattle.plan.specs.declared.types.Entry.{Entry}
 use Rattle.plan.specs.declared.types.End.{End}
@@ -15,8 +15,6 @@ use Rattle.planner.specs.declared.types.Planner.{Planner}
 use Rattle.planner.specs.Coming.{coming}
 use Rattle.planner.specs.Step.{planner_at}
 use Rattle.planner.proofs.StepLaws.{counts_at_end}
-use Rattle.stored.specs.declared.types.Loaded.{Loaded}
-use Rattle.stored.specs.declared.types.Loaded.TheVariants as loaded
 use Rattle.stored.specs.Stored.{WordsOf, LoadedIs}
 use Rattle.stored.proofs.Laws.{one_planner, thirty_nine}
 use Rattle.stepping.specs.Host.{answer_words, sets_next, Has, Moved, StepFrom, StepOf, StepIs, StartIs}
@@ -29,9 +27,9 @@ call_moves p ws bank out r ws' bank' out' h b o s =
     let m : StepOf ws bank out r ws' bank' out' = rw (eq-eqb (length ws) 39 n, eq-eqb (length bank) 136 b, eq-eqb (length out) 11 o) at s in
     by m.loaded m.is m.step
   where
-    by : (l : Loaded) → LoadedIs ws l → StepFrom l ws bank out r ws' bank' out' → (r ≡ 0) × Moved p bank ws' bank' out'
-    by (loaded.Is q) k t = (t.0, subst (λ (x : Planner). Moved x bank ws' bank' out') (one_planner q p ws k h) t.1)
-    by loaded.Nothing k t = absurd (k p h)
+    by : (l : Option Planner) → LoadedIs ws l → StepFrom l ws bank out r ws' bank' out' → (r ≡ 0) × Moved p bank ws' bank' out'
+    by (Some q) k t = (t.0, subst (λ (x : Planner). Moved x bank ws' bank' out') (one_planner q p ws k h) t.1)
+    by None k t = absurd (k p h)
 
 -- the theorem for hosts: words that have c to come give the first of c, and have the rest to come
 pub host_step : (ws bank out : List ℕ) (r : ℕ) (ws' bank' out' : List ℕ) (c : Coming) → Has ws c → length bank ≡ 136 → length out ≡ 11 → StepIs ws bank out r ws' bank' out' → Gave c bank r ws' bank' out'

@@ -19,7 +19,7 @@ ghost use Rattle.measuring.specs.Host.{begun_words, MovedIs, FilledIs, drifted, 
 
 use planner::{Given, Planner};
 use request::Request;
-use ruler::{Begun, Found, Place, Ruler, Taken};
+use ruler::{Begun, Place, Ruler, Taken};
 use signed::word_of;
 use words::put;
 
@@ -97,26 +97,20 @@ fn fill(r: Ruler, start: Planner, drift: &mut [u64]) -> usize
     n
 }
 
-fn flag(b: bool) -> u64
-    ensures { result ≡ cond b 1 0 }
-{
-    if b { 1 } else { 0 }
-}
-
 fn measured(object: &[u8], q: Request, drift: &mut [u64]) -> Told
     ensures { drifted 0 drift.new (result.rectangles ∷ result.apt ∷ []) ≡ measured_of (with_bytes object.now q) drift.old }
 {
-    match ruler::ruler_of(object, q.opcode, q.scissor, q.mode, q.address) {
-        Found::Is(r) => {
-            let p = starts::fresh(object, q.opcode, q.scissor, q.mode, q.address);
+    match ruler::ruler_of(object, q) {
+        Some(r) => {
+            let p = starts::fresh(object, q);
             let n = fill(r, p, &mut *drift);
-            let apt = flag(ruler::apt(r));
+            let apt = u64::from(ruler::apt(r));
             Told {
                 rectangles: n as u64,
                 apt,
             }
         }
-        Found::Nothing => Told {
+        None => Told {
             rectangles: 0,
             apt: 0,
         },

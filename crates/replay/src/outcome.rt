@@ -19,7 +19,7 @@ pub struct Outcome {
 pub(crate) fn run_into(object: &[u8], q: Request, bank: &mut [u64], plan: &mut [u64]) -> Outcome
     ensures { result ≡ outcome_of (plan_of (with_bytes object.now q)) (length plan.old) bank.old }
 {
-    let end = runs::run(object, q.opcode, q.scissor, q.mode, q.address, bank, plan);
+    let end = runs::run(object, q, bank, plan);
     let n = 11 * end.entries as usize;
     let entries = digest(&plan[..n]);
     let bank = digest(&*bank);

@@ -32,7 +32,7 @@ pub(crate) fn run_and_step(
     let bank = bank_from(&stored);
     let mut words = words_of(bank);
     let run = run_into(object, q, &mut words, plan);
-    let end = runs::count(object, q.opcode, q.scissor, q.mode, q.address);
+    let end = runs::count(object, q);
     let steps = stepped(object, q, bank);
     let mixed = if ((chunk.len() / 11) as u64) < end.entries {
         Some(mixed(object, q, &stored, chunk))

@@ -69,7 +69,7 @@ fn steps_from(start: Planner, bank: Bank, before: u64) -> Digests
 pub(crate) fn stepped(object: &[u8], q: Request, bank: Bank) -> Digests
     ensures { result ≡ stepped_of (plan_of (with_bytes object.now q)) bank }
 {
-    let p = starts::fresh(object, q.opcode, q.scissor, q.mode, q.address);
+    let p = starts::fresh(object, q);
     steps_from(p, bank, BASIS)
 }
 
@@ -91,12 +91,10 @@ pub(crate) fn mixed(object: &[u8], q: Request, stored: &[u64], chunk: &mut [u64]
     ensures { result ≡ stepped_of (plan_of (with_bytes object.now q)) (bank_from stored.now) }
 {
     let mut words = words_of(bank_from(stored));
-    let end = runs::run(
-        object, q.opcode, q.scissor, q.mode, q.address, &mut words, chunk,
-    );
+    let end = runs::run(object, q, &mut words, chunk);
     let n = 11 * end.entries as usize;
     let before = digest(&chunk[..n]);
-    let p = starts::fresh(object, q.opcode, q.scissor, q.mode, q.address);
+    let p = starts::fresh(object, q);
     let rest = pass_over(p, end.entries);
     steps_from(rest, bank_from(&words), before)
 }

@@ -1,6 +1,6 @@
 -- What measures a request's plan: its ranges, demand 3's numbers, and the plans that have nothing to measure.
 -- Assumes nothing.
-use Rattle.std.specs.Prelude.{Ok, Err}
+use Rattle.std.specs.Prelude.{Ok, Err, Option, Some, None}
 use Rattle.std.proofs.Common.{◌≡◌, refl, sym, ap, subst, ◌∙◌, Bool, true, false, cond, not, ◌&&◌, List, [], ℕ, ◌+◌, ◌-◌, ◌*◌, ◌/◌, ◌^◌, ◌≤◌, ◌<◌, arith, mul-le-mul, mul-le-mul_right, le-div_iff_mul-le, eqb, ℤ, pos, neg_ℤ, ◌-ℤ◌, ◌*ℤ◌, ◌≤ℤ◌, SFits}
 use Rattle.std.specs.Int.{w64}
 use borrow.Author.Tests.{eqb-true}
@@ -31,8 +31,6 @@ use Rattle.scaled.specs.Range.{Usable, Filled, StartIn, ClipIs, StartIs, ScaledI
 use Rattle.first.specs.Near.{Near, FirstIs}
 use Rattle.small.specs.SmallPlans.{scaled_small}
 use Rattle.ruler.specs.declared.types.Ruler.{Ruler}
-use Rattle.ruler.specs.declared.types.Found.{Found}
-use Rattle.ruler.specs.declared.types.Found.TheVariants as found
 use Rattle.ruler.specs.Drifts.{drifts_of, scaled_set, set_up, drift_in, ruler_from, strips_at, first_at, ruler_of, SoundRuler, MadeIn, RulerScaled, FoundScaled, RulerIs, FoundIs}
 use Rattle.ruler.proofs.Ranges.{quotient_in, scaled_parts}
 
@@ -158,17 +156,17 @@ drifts_none q e = rw e (by (eqb q.opcode 9))
     by true = refl
     by false = refl
 
-pub nothing_refused : (q : Request) (v : Verdict) → checked_of 4 q.bytes q.opcode q.scissor ≡ Err v → FoundIs q found.Nothing
+pub nothing_refused : (q : Request) (v : Verdict) → checked_of 4 q.bytes q.opcode q.scissor ≡ Err v → FoundIs q None
 unfolding set_up plan_of plan_with checked_out
 nothing_refused q v e = (rw e, drifts_none q (rw e))
 
-no_copy : (a b c : Bool) (bg bg' : ObjBg) → refused_by a verdict.Short (refused_by b verdict.Scissor (refused_by c verdict.Object (Ok (background.Scaled bg)))) ≡ Ok (background.Copy bg)' → ⊥
+no_copy : (a b c : Bool) (bg bg' : ObjBg) → refused_by a verdict.Short (refused_by b verdict.Scissor (refused_by c verdict.Object (Ok (background.Scaled bg)))) ≡ Ok (background.Copy bg) ' → ⊥
 no_copy true b c bg bg' e = let z : ◌≡◌ {A = ℕ} 0 1 = cc in omega arith
 no_copy false true c bg bg' e = let z : ◌≡◌ {A = ℕ} 0 1 = cc in omega arith
 no_copy false false true bg bg' e = let z : ◌≡◌ {A = ℕ} 0 1 = cc in omega arith
 no_copy false false false bg bg' e = let z : ◌≡◌ {A = ℕ} 0 1 = cc in omega arith
 
-no_scaled : (a b c d : Bool) (bg bg' : ObjBg) → refused_by a verdict.Short (refused_by b verdict.Scissor (refused_by c verdict.Object (refused_by d verdict.Copy (Ok (background.Copy bg))))) ≡ Ok (background.Scaled bg)' → ⊥
+no_scaled : (a b c d : Bool) (bg bg' : ObjBg) → refused_by a verdict.Short (refused_by b verdict.Scissor (refused_by c verdict.Object (refused_by d verdict.Copy (Ok (background.Copy bg))))) ≡ Ok (background.Scaled bg) ' → ⊥
 no_scaled true b c d bg bg' e = let z : ◌≡◌ {A = ℕ} 0 1 = cc in omega arith
 no_scaled false true c d bg bg' e = let z : ◌≡◌ {A = ℕ} 0 1 = cc in omega arith
 no_scaled false false true d bg bg' e = let z : ◌≡◌ {A = ℕ} 0 1 = cc in omega arith
@@ -202,7 +200,7 @@ scaled_opcode bs opcode s bg e = by (eqb opcode 9) (eqb opcode 10) refl refl
     by false true a b = absurd (ten bs s bg (ap (λ (n : ℕ). checked_of 4 bs n s) (sym (eqb-true opcode 10 b)) ∙ e))
     by false false a b = let z : ◌≡◌ {A = ℕ} 0 1 = cc (other bs opcode s a b) in absurd (omega arith)
 
-pub nothing_copied : (q : Request) (bg : ObjBg) → checked_of 4 q.bytes q.opcode q.scissor ≡ Ok (background.Copy bg) → FoundIs q found.Nothing
+pub nothing_copied : (q : Request) (bg : ObjBg) → checked_of 4 q.bytes q.opcode q.scissor ≡ Ok (background.Copy bg) → FoundIs q None
 unfolding set_up drifts_of
 nothing_copied q bg e = (rw e, rw (copied_opcode q.bytes q.opcode q.scissor bg e))
 
@@ -269,7 +267,7 @@ module _ {bg : ObjBg} {s : Scissor} {mode address : ℕ} {c : Clip} {i : Start} 
       }
 
 module _ (q : Request) (bg : ObjBg) (e : checked_of 4 q.bytes q.opcode q.scissor ≡ Ok (background.Scaled bg)) where
-  found_nothing : scaled_set bg q.scissor q.mode q.address ≡ false → FoundIs q found.Nothing
+  found_nothing : scaled_set bg q.scissor q.mode q.address ≡ false → FoundIs q None
   unfolding set_up plan_of plan_with checked_out
   found_nothing n = (rw e n, drifts_none q (rw e (no_entries bg q n)))
 
@@ -277,7 +275,7 @@ module _ (q : Request) (bg : ObjBg) (e : checked_of 4 q.bytes q.opcode q.scissor
   unfolding set_up
   set_up_lem n = rw e n
 
-  found_is : (r : Ruler) → PassedScaled bg q.scissor → q.address < 2 ^ 64 → FoundScaled bg q.scissor q.mode q.address (found.Is r) → RulerIs q r
+  found_is : (r : Ruler) → PassedScaled bg q.scissor → q.address < 2 ^ 64 → FoundScaled bg q.scissor q.mode q.address (Some r) → RulerIs q r
   found_is r p a f =
       let b = checked_scaled_is 4 q.bytes q.opcode q.scissor bg e in
       record {
@@ -288,6 +286,6 @@ module _ (q : Request) (bg : ObjBg) (e : checked_of 4 q.bytes q.opcode q.scissor
         small = scaled_small q bg e p a;
       }
 
-  pub found_scaled : PassedScaled bg q.scissor → q.address < 2 ^ 64 → (r : Found) → FoundScaled bg q.scissor q.mode q.address r → FoundIs q r
-  found_scaled p a (found.Is r) f = found_is r p a f
-  found_scaled p a found.Nothing f = found_nothing f
+  pub found_scaled : PassedScaled bg q.scissor → q.address < 2 ^ 64 → (r : Option Ruler) → FoundScaled bg q.scissor q.mode q.address r → FoundIs q r
+  found_scaled p a (Some r) f = found_is r p a f
+  found_scaled p a None f = found_nothing f

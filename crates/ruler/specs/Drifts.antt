@@ -1,6 +1,6 @@
 -- Demand 3's numbers of each rectangle of a scaled plan, and what the code has of them between two rectangles. D is docs/SPECIFICATION.md, section 11.
 -- Assumes nothing.
-use Rattle.std.specs.Prelude.{◌≡◌, Bool, true, false, cond, not, ◌&&◌, List, [], ◌∷◌, ℕ, ◌+◌, ◌*◌, ◌-◌, ◌/◌, ◌%◌, ◌^◌, ◌≤◌, eqb, ℤ, pos, neg_ℤ, ◌+ℤ◌, ◌-ℤ◌, ◌*ℤ◌, ◌≤ℤ◌, Ok, Err}
+use Rattle.std.specs.Prelude.{◌≡◌, Bool, true, false, cond, not, ◌&&◌, List, [], ◌∷◌, ℕ, ◌+◌, ◌*◌, ◌-◌, ◌/◌, ◌%◌, ◌^◌, ◌≤◌, eqb, ℤ, pos, neg_ℤ, ◌+ℤ◌, ◌-ℤ◌, ◌*ℤ◌, ◌≤ℤ◌, Ok, Err, Option, Some, None}
 use Rattle.std.specs.Int.Signed.{le_z}
 use Rattle.std.specs.Int.{w64}
 use Rattle.std.proofs.Common.{SFits}
@@ -29,12 +29,8 @@ use Rattle.small.specs.Small.{Signed16, AllSmall}
 use Rattle.ruler.specs.declared.types.Ruler.{Ruler}
 use Rattle.ruler.specs.declared.types.Place.{Place}
 use Rattle.ruler.specs.declared.types.Begun.{Begun}
-use Rattle.ruler.specs.declared.types.Found.{Found}
-use Rattle.ruler.specs.declared.types.Found.TheVariants as found
 use Rattle.ruler.specs.declared.types.Taken.{Taken}
 use Rattle.ruler.specs.declared.types.Taken.TheVariants as taken
-use Rattle.ruler.specs.declared.types.Next.{Next}
-use Rattle.ruler.specs.declared.types.Next.TheVariants as next
 
 -- ---- what a plan has
 
@@ -191,9 +187,9 @@ pub record NextAt (f : ℕ) (p s : Place) : Type 0 where
   pub earlier : s.earlier ≡ p.earlier
   pub place : InPlace s
 
-abbrev pub NextIs : (f : ℕ) → Place → Next → Type 0
-NextIs f p (next.At s) = NextAt f p s
-NextIs f p next.Over = strips_from f p ≡ []
+abbrev pub NextIs : (f : ℕ) → Place → Option Place → Type 0
+NextIs f p (Some s) = NextAt f p s
+NextIs f p None = strips_from f p ≡ []
 
 -- the rectangles of an entry and of those after it, by what the entry is
 abbrev pub taken_of : Ruler → Place → Taken → List Entry → List demand.Begun
@@ -220,9 +216,9 @@ pub record RulerScaled (bg : ObjBg) (s : Scissor) (mode address : ℕ) (r : Rule
   pub count : pos 0 ≤ℤ (first_at bg s mode address).count
   pub sound : SoundRuler r
 
-abbrev pub FoundScaled : ObjBg → Scissor → (mode address : ℕ) → Found → Type 0
-FoundScaled bg s mode address (found.Is r) = RulerScaled bg s mode address r
-FoundScaled bg s mode address found.Nothing = scaled_set bg s mode address ≡ false
+abbrev pub FoundScaled : ObjBg → Scissor → (mode address : ℕ) → Option Ruler → Type 0
+FoundScaled bg s mode address (Some r) = RulerScaled bg s mode address r
+FoundScaled bg s mode address None = scaled_set bg s mode address ≡ false
 
 -- what measures a request's plan, or that the plan has nothing to measure
 pub record RulerIs (q : Request) (r : Ruler) : Type 0 where
@@ -232,6 +228,6 @@ pub record RulerIs (q : Request) (r : Ruler) : Type 0 where
   pub sound : SoundRuler r
   pub small : AllSmall (plan_of q).entries
 
-abbrev pub FoundIs : Request → Found → Type 0
-FoundIs q (found.Is r) = RulerIs q r
-FoundIs q found.Nothing = (set_up q ≡ false) × (drifts_of q ≡ [])
+abbrev pub FoundIs : Request → Option Ruler → Type 0
+FoundIs q (Some r) = RulerIs q r
+FoundIs q None = (set_up q ≡ false) × (drifts_of q ≡ [])

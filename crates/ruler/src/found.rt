@@ -3,13 +3,14 @@ ghost use Rattle.std.specs.Prelude.{◌≡◌, ◌+◌, ◌≤◌, ◌^◌, pos,
 ghost use Rattle.measures.specs.Measure.{quarters, thirty_seconds, sampled_by};
 ghost use Rattle.measures.specs.Range.{Below};
 ghost use Rattle.checks.specs.Known.{PassedScaled};
-ghost use Rattle.planner.specs.Coming.{request_of};
+ghost use Rattle.request.specs.Host.{with_bytes};
 ghost use Rattle.ruler.specs.Drifts.{SoundRuler, SoundPlace, place_of, apt_in, ruler_from, MadeIn, FoundScaled, FoundIs};
 
-use crate::types::{Found, Place, Ruler};
+use crate::types::{Place, Ruler};
 use measures::{Quarters, Scale, ThirtySeconds};
-use object::{Background, ObjBg, Scissor};
+use object::{Background, ObjBg};
 use plan::{Clip, First, Scaled, Start};
+use request::Request;
 
 // Where the frame starts in the image: the clipped top is sampled.
 fn start_at(y: ThirtySeconds, top: Quarters, h: Scale) -> u64
@@ -52,29 +53,29 @@ fn made(bg: ObjBg, c: Clip, i: Start, z: Scaled, f: First) -> Ruler
     }
 }
 
-fn scaled_found(bg: ObjBg, scissor: Scissor, mode: u32, address: u64) -> Found
-    requires { PassedScaled bg scissor }
-    ensures { FoundScaled bg scissor mode address result }
+fn scaled_found(bg: ObjBg, q: Request) -> Option<Ruler>
+    requires { PassedScaled bg q.scissor }
+    ensures { FoundScaled bg q.scissor q.mode q.address result }
 {
-    let c = scaled::clip_of(bg, scissor);
+    let c = scaled::clip_of(bg, q.scissor);
     if scaled::clip_empty(c) {
-        return Found::Nothing;
+        return None;
     }
     let i = scaled::start_of(bg, c);
-    let z = scaled::scaled_of(bg, mode, address, c, i);
+    let z = scaled::scaled_of(bg, q.mode, q.address, c, i);
     if scaled::slices_bad(z) {
-        return Found::Nothing;
+        return None;
     }
-    Found::Is(made(bg, c, i, z, first::first_of(z, i)))
+    Some(made(bg, c, i, z, first::first_of(z, i)))
 }
 
 // Nothing measures a plan that has no scaled rectangle to come.
-pub fn ruler_of(object: &[u8], opcode: u8, scissor: Scissor, mode: u32, address: u64) -> Found
-    ensures { FoundIs (request_of object.now opcode scissor mode address) result }
+pub fn ruler_of(object: &[u8], q: Request) -> Option<Ruler>
+    ensures { FoundIs (with_bytes object.now q) result }
 {
-    match checks::checked(object, opcode, scissor) {
-        Ok(Background::Scaled(bg)) => scaled_found(bg, scissor, mode, address),
-        Ok(Background::Copy(_)) | Err(_) => Found::Nothing,
+    match checks::checked(object, q.opcode, q.scissor) {
+        Ok(Background::Scaled(bg)) => scaled_found(bg, q),
+        Ok(Background::Copy(_)) | Err(_) => None,
     }
 }
 

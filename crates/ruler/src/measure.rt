@@ -8,7 +8,7 @@ ghost use Rattle.small.specs.Small.{Signed16, Small};
 ghost use Rattle.ruler.specs.Drifts.{drift_in, SoundRuler, SoundPlace, StripIn, RectIn, RectIs, TakenIs};
 
 use crate::strip::{drawn, next_strip};
-use crate::types::{Begun, Next, Place, Ruler, Taken};
+use crate::types::{Begun, Place, Ruler, Taken};
 use measures::ThirtySeconds;
 use plan::Entry;
 
@@ -81,8 +81,8 @@ fn rect_taken(r: Ruler, p: Place, uly: u64, lry: u64, ult: i64, row: u64) -> Tak
     ensures { RectIs r p uly lry ult row result }
 {
     match next_strip(r.frame_rows, p) {
-        Next::At(s) => {
-            let lines = signed::minus(lry, uly) / 4;
+        Some(s) => {
+            let lines = lry.saturating_sub(uly) / 4;
             let distance = distance(r, s.k, row, ult, s.earlier);
             let begun = Begun {
                 line: s.earlier,
@@ -91,7 +91,7 @@ fn rect_taken(r: Ruler, p: Place, uly: u64, lry: u64, ult: i64, row: u64) -> Tak
             };
             Taken::Is(begun, drawn(r.frame_rows, s, lines))
         }
-        Next::Over => Taken::Over,
+        None => Taken::Over,
     }
 }
 

@@ -2,7 +2,7 @@
 ghost use Rattle.std.specs.Prelude.{◌≤◌, ◌≡◌};
 ghost use Rattle.ruler.specs.Drifts.{NextIs, InPlace, idle_from, drawn_from};
 
-use crate::types::{Next, Place};
+use crate::types::Place;
 
 // After a pass without a line.
 fn idle(frame_rows: u64, p: Place) -> Place
@@ -18,21 +18,22 @@ fn idle(frame_rows: u64, p: Place) -> Place
     }
 }
 
-pub(crate) fn next_strip(frame_rows: u64, start: Place) -> Next
+// The strip that draws next.
+pub(crate) fn next_strip(frame_rows: u64, start: Place) -> Option<Place>
     requires { (frame_rows ≤ 536870912) × InPlace start }
     ensures { NextIs frame_rows start result }
 {
     let mut p = start;
     if p.left == 0 {
-        return Next::Over;
+        return None;
     }
     while p.fuel > 0 {
         if p.count >= 1024 {
-            return Next::At(p);
+            return Some(p);
         }
         p = idle(frame_rows, p);
     }
-    Next::Over
+    None
 }
 
 // After a strip that draws.
@@ -43,7 +44,7 @@ pub(crate) fn drawn(frame_rows: u64, p: Place, lines: u64) -> Place
     Place {
         fuel: p.fuel - 1,
         k: p.k + 1,
-        left: signed::minus(p.left, p.count / 1024),
+        left: p.left.saturating_sub(p.count / 1024),
         count: p.count % 1024 + frame_rows,
         earlier: p.earlier + lines,
     }

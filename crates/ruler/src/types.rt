@@ -17,12 +17,6 @@ pub struct Ruler {
     pub origin: i64,
 }
 
-#[derive(Clone, Copy)]
-pub enum Found {
-    Is(Ruler),
-    Nothing,
-}
-
 // Before a pass: the passes left at the most, the strip's number, the frame's lines left, the strip's in 1,024ths, and the lines of earlier rectangles.
 #[derive(Clone, Copy)]
 pub struct Place {
@@ -46,12 +40,5 @@ pub struct Begun {
 pub enum Taken {
     Is(Begun, Place),
     Passed,
-    Over,
-}
-
-// The strip that draws next.
-#[derive(Clone, Copy)]
-pub(crate) enum Next {
-    At(Place),
     Over,
 }

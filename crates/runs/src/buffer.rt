@@ -5,13 +5,15 @@ ghost use Rattle.plan.specs.Run.{end_of};
 ghost use Rattle.plan.specs.Steps.{coming_of};
 ghost use Rattle.words.specs.Counts.{zero_counts};
 ghost use Rattle.giving.specs.Places.{PlacesIn, settled_of};
-ghost use Rattle.planner.specs.Coming.{Sound, coming, request_of};
+ghost use Rattle.planner.specs.Coming.{Sound, coming};
+ghost use Rattle.request.specs.Host.{with_bytes};
 ghost use Rattle.runs.specs.Ran.{RanIs, StepsTo, stride_of};
 
 use giving::Places;
-use object::{Scissor, Verdict};
+use object::Verdict;
 use plan::End;
 use planner::{Course, Given, Planner};
+use request::Request;
 use starts::fresh;
 
 // The words from one entry to the next.
@@ -72,20 +74,11 @@ fn steps(start: Planner, bank: &mut [u64], kept: bool, plan: &mut [u64]) -> End
 }
 
 // All of a request's steps: the one caller of `fresh` and `steps`, so that the compiler joins them and all that they call. A plan without an entry needs no step; nor does a copy plan where entries are only counted, and `steps` counts scaled plans.
-fn planned(
-    object: &[u8],
-    opcode: u8,
-    scissor: Scissor,
-    mode: u32,
-    address: u64,
-    bank: &mut [u64],
-    kept: bool,
-    plan: &mut [u64],
-) -> End
+fn planned(object: &[u8], q: Request, bank: &mut [u64], kept: bool, plan: &mut [u64]) -> End
     requires { kept ≡ false → 11 ≤ length plan.old }
-    ensures { StepsTo kept (coming_of (plan_of (request_of object.now opcode scissor mode address))) plan.old bank.old plan.new bank.new result }
+    ensures { StepsTo kept (coming_of (plan_of (with_bytes object.now q))) plan.old bank.old plan.new bank.new result }
 {
-    let p = fresh(object, opcode, scissor, mode, address);
+    let p = fresh(object, q);
     let course = p.course;
     if let Course::Over(v) = course {
         return words::end_of(p.counts, v);
@@ -99,29 +92,17 @@ fn planned(
 }
 
 // Entries of eleven words until the plan ends or the buffer is full; words beyond the last entry are left alone, and so are words of the bank that no entry sets.
-pub fn run(
-    object: &[u8],
-    opcode: u8,
-    scissor: Scissor,
-    mode: u32,
-    address: u64,
-    bank: &mut [u64],
-    plan: &mut [u64],
-) -> End
-    ensures { RanIs object.now opcode scissor mode address plan.old bank.old plan.new bank.new result }
+pub fn run(object: &[u8], q: Request, bank: &mut [u64], plan: &mut [u64]) -> End
+    ensures { RanIs object.now q.opcode q.scissor q.mode q.address plan.old bank.old plan.new bank.new result }
 {
-    planned(
-        object, opcode, scissor, mode, address, &mut *bank, true, &mut *plan,
-    )
+    planned(object, q, &mut *bank, true, &mut *plan)
 }
 
 // The end of the whole plan, which a run with room for all of its entries gives.
-pub fn count(object: &[u8], opcode: u8, scissor: Scissor, mode: u32, address: u64) -> End
-    ensures { result ≡ end_of (plan_of (request_of object.now opcode scissor mode address)) }
+pub fn count(object: &[u8], q: Request) -> End
+    ensures { result ≡ end_of (plan_of (with_bytes object.now q)) }
 {
     let mut none = [0u64; 1];
     let mut entry = [0u64; 11];
-    planned(
-        object, opcode, scissor, mode, address, &mut none, false, &mut entry,
-    )
+    planned(object, q, &mut none, false, &mut entry)
 }

@@ -64,10 +64,7 @@ fn max_slice_of(siz: u8, slice: ThirtySeconds, source_w: ThirtySeconds) -> u64
     if siz == 3 {
         0x2800
     } else {
-        signed::least(
-            measures::thirty_seconds(slice),
-            measures::thirty_seconds(source_w),
-        )
+        measures::thirty_seconds(slice).min(measures::thirty_seconds(source_w))
     }
 }
 
@@ -135,7 +132,7 @@ fn rows_of(bg: ObjBg, bilerp: u64) -> Rows
 {
     let line = line_of(bg, bilerp);
     let capacity = capacity::scaled_capacity(bg.image_fmt, bg.image_siz);
-    let image_rows = signed::minus(capacity / line, bilerp);
+    let image_rows = (capacity / line).saturating_sub(bilerp);
     let frame_rows = measures::lines_at(image_rows, bg.scale_h);
     let source_rows = measures::whole_texels(measures::in_image(bg.image_h));
     Rows {

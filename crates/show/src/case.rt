@@ -3,7 +3,7 @@ ghost use Rattle.show.specs.Case.{CaseIs};
 
 use object::Scissor;
 use planner::Planner;
-use request::from_bytes;
+use request::{Request, from_bytes};
 use starts::fresh;
 
 const COPY: u8 = 10;
@@ -13,15 +13,21 @@ pub fn case_planner(bytes: &[u8]) -> Planner
     ensures { CaseIs bytes.now result }
 {
     match from_bytes(bytes) {
-        Some(q) => fresh(&bytes[..40], q.opcode, q.scissor, q.mode, q.address),
+        Some(q) => fresh(&bytes[..40], q),
         None => {
-            let nothing = Scissor {
+            let scissor = Scissor {
                 ulx: 0,
                 uly: 0,
                 lrx: 0,
                 lry: 0,
             };
-            fresh(&bytes[..0], COPY, nothing, 0, 0)
+            let nothing = Request {
+                opcode: COPY,
+                scissor,
+                mode: 0,
+                address: 0,
+            };
+            fresh(&bytes[..0], nothing)
         }
     }
 }

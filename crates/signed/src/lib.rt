@@ -8,25 +8,6 @@ ghost use Rattle.signed.specs.Diff.{up};
 ghost use Rattle.signed.specs.Floor.{floor_div, modulo};
 ghost use Rattle.signed.specs.Cast.{u16, i16, word};
 
-pub fn least(a: u64, b: u64) -> u64
-    ensures { result ≡ min a b }
-{
-    if a < b { a } else { b }
-}
-
-pub fn most(a: u64, b: u64) -> u64
-    ensures { result ≡ max a b }
-{
-    if a < b { b } else { a }
-}
-
-// The difference, and 0 where it would lie below 0.
-pub fn minus(a: u64, b: u64) -> u64
-    ensures { result ≡ a - b }
-{
-    if b < a { a - b } else { 0 }
-}
-
 // The Rust's `.max(0)`.
 pub fn positive(z: i64) -> u64
     ensures { result ≡ up z }

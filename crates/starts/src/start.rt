@@ -3,31 +3,32 @@ ghost use Rattle.checks.specs.Known.{PassedCopy, PassedScaled};
 ghost use Rattle.planner.specs.Coming.{Fresh, StartsCopy, StartsScaled};
 
 use copy::{Due, Stage};
-use object::{Background, ObjBg, Scissor, Verdict};
+use object::{Background, ObjBg, Verdict};
 use planner::{Course, Planner};
+use request::Request;
 use words::Counts;
 
-fn copy_course(bg: ObjBg, scissor: Scissor, address: u64) -> Course
-    requires { PassedCopy bg scissor }
-    ensures { StartsCopy bg scissor address result }
+fn copy_course(bg: ObjBg, q: Request) -> Course
+    requires { PassedCopy bg q.scissor }
+    ensures { StartsCopy bg q.scissor q.address result }
 {
-    let c = strips::copy_of(bg, scissor, address);
+    let c = strips::copy_of(bg, q.scissor, q.address);
     if strips::copy_empty(c) {
         return Course::Over(Verdict::Finished);
     }
     Course::Copy(Stage::Strip(Due::Image), copy::copy_start(c))
 }
 
-fn scaled_course(bg: ObjBg, scissor: Scissor, mode: u32, address: u64) -> Course
-    requires { PassedScaled bg scissor }
-    ensures { StartsScaled bg scissor mode address result }
+fn scaled_course(bg: ObjBg, q: Request) -> Course
+    requires { PassedScaled bg q.scissor }
+    ensures { StartsScaled bg q.scissor q.mode q.address result }
 {
-    let c = scaled::clip_of(bg, scissor);
+    let c = scaled::clip_of(bg, q.scissor);
     if scaled::clip_empty(c) {
         return Course::Over(Verdict::Finished);
     }
     let i = scaled::start_of(bg, c);
-    let z = scaled::scaled_of(bg, mode, address, c, i);
+    let z = scaled::scaled_of(bg, q.mode, q.address, c, i);
     if scaled::slices_bad(z) {
         return Course::Over(Verdict::Slices);
     }
@@ -38,12 +39,12 @@ fn scaled_course(bg: ObjBg, scissor: Scissor, mode: u32, address: u64) -> Course
 }
 
 // The planner of any request; one that is refused ends at its first step.
-pub fn fresh(object: &[u8], opcode: u8, scissor: Scissor, mode: u32, address: u64) -> Planner
-    ensures { Fresh object.now opcode scissor mode address result }
+pub fn fresh(object: &[u8], q: Request) -> Planner
+    ensures { Fresh object.now q.opcode q.scissor q.mode q.address result }
 {
-    let course = match checks::checked(object, opcode, scissor) {
-        Ok(Background::Copy(bg)) => copy_course(bg, scissor, address),
-        Ok(Background::Scaled(bg)) => scaled_course(bg, scissor, mode, address),
+    let course = match checks::checked(object, q.opcode, q.scissor) {
+        Ok(Background::Copy(bg)) => copy_course(bg, q),
+        Ok(Background::Scaled(bg)) => scaled_course(bg, q),
         Err(v) => Course::Over(v),
     };
     let counts = Counts {

@@ -1,6 +1,6 @@
 -- What the stepping functions leave to the host: words that have something to come, and one step of it. D is docs/SPECIFICATION.md, section 10.
 -- Assumes nothing.
-use Rattle.std.specs.Prelude.{◌≡◌, Bool, true, false, ◌&&◌, List, [], ◌∷◌, ℕ, eqb, length}
+use Rattle.std.specs.Prelude.{◌≡◌, Bool, true, false, ◌&&◌, List, [], ◌∷◌, ℕ, eqb, length, Option, Some, None}
 use Rattle.plan.specs.declared.types.Entry.{Entry}
 use Rattle.plan.specs.declared.types.Answer.{Answer}
 use Rattle.plan.specs.declared.types.Answer.TheVariants as answer
@@ -15,8 +15,6 @@ use Rattle.planner.specs.declared.types.Given.{Given}
 use Rattle.planner.specs.declared.types.Given.TheVariants as given
 use Rattle.planner.specs.Coming.{coming}
 use Rattle.planner.specs.Step.{planner_at}
-use Rattle.stored.specs.declared.types.Loaded.{Loaded}
-use Rattle.stored.specs.declared.types.Loaded.TheVariants as loaded
 use Rattle.stored.specs.Stored.{stored_of, WordsOf, LoadedIs}
 
 -- a step's answer as eleven words
@@ -47,20 +45,20 @@ pub record Moved (p : Planner) (bank ws' bank' out' : List ℕ) : Type 0 where
   pub has : Has ws' (next_of (coming p).entries (coming p).left (coming p).end)
   pub over : (coming p).entries ≡ [] → ws' ≡ stored_of (planner_at (course.Over (coming p).end.verdict) p.counts)
 
-abbrev pub StepFrom : Loaded → (ws bank out : List ℕ) → ℕ → (ws' bank' out' : List ℕ) → Type 0
-StepFrom (loaded.Is p) ws bank out r ws' bank' out' = (r ≡ 0) × Moved p bank ws' bank' out'
-StepFrom loaded.Nothing ws bank out r ws' bank' out' = (r ≡ 1) × ((ws' ≡ ws) × ((bank' ≡ bank) × (out' ≡ out)))
+abbrev pub StepFrom : Option Planner → (ws bank out : List ℕ) → ℕ → (ws' bank' out' : List ℕ) → Type 0
+StepFrom (Some p) ws bank out r ws' bank' out' = (r ≡ 0) × Moved p bank ws' bank' out'
+StepFrom None ws bank out r ws' bank' out' = (r ≡ 1) × ((ws' ≡ ws) × ((bank' ≡ bank) × (out' ≡ out)))
 
 -- a step of the planner that the words are; 1 and nothing changed where they are no sound planner's
 pub record StepOf (ws bank out : List ℕ) (r : ℕ) (ws' bank' out' : List ℕ) : Type 0 where
-  pub loaded : Loaded
+  pub loaded : Option Planner
   pub is : LoadedIs ws loaded
   pub step : StepFrom loaded ws bank out r ws' bank' out'
 
 -- and where there are too few or too many
 abbrev pub StepWith : Bool → (ws bank out : List ℕ) → ℕ → (ws' bank' out' : List ℕ) → Type 0
 StepWith true ws bank out r ws' bank' out' = StepOf ws bank out r ws' bank' out'
-StepWith false ws bank out r ws' bank' out' = StepFrom loaded.Nothing ws bank out r ws' bank' out'
+StepWith false ws bank out r ws' bank' out' = StepFrom None ws bank out r ws' bank' out'
 
 abbrev pub StepIs : (ws bank out : List ℕ) → ℕ → (ws' bank' out' : List ℕ) → Type 0
 StepIs ws bank out r ws' bank' out' = StepWith (eqb (length ws) 39 && (eqb (length bank) 136 && eqb (length out) 11)) ws bank out r ws' bank' out'

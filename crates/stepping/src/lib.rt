@@ -15,7 +15,6 @@ ghost use Rattle.stored.specs.Stored.{StoredIs};
 ghost use Rattle.stepping.specs.Host.{answer_words, sets_in, Moved, StepIs, StartIs};
 
 use planner::{Given, Planner};
-use stored::Loaded;
 use words::put;
 
 const REQUEST: usize = 7;
@@ -100,11 +99,11 @@ pub fn visor_step(state: &mut [u64], bank: &mut [u64], out: &mut [u64]) -> u64
         return 1;
     }
     match stored::load(taken(state)) {
-        Loaded::Is(p) => {
+        Some(p) => {
             moved(p, &mut *state, &mut *bank, &mut *out);
             0
         }
-        Loaded::Nothing => 1,
+        None => 1,
     }
 }
 
@@ -119,7 +118,7 @@ pub fn visor_start(object: &[u8], request: &[u64], state: &mut [u64]) -> u64
         return 1;
     }
     let q = request::from_words(request);
-    let p = starts::fresh(object, q.opcode, q.scissor, q.mode, q.address);
+    let p = starts::fresh(object, q);
     keep(&mut *state, p);
     0
 }

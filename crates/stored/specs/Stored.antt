@@ -1,6 +1,6 @@
 -- A planner as 39 words, and the planner of such words.
 -- Assumes nothing.
-use Rattle.std.specs.Prelude.{◌≡◌, Bool, cond, ◌&&◌, List, [], ◌∷◌, ℕ, ltb, eqb, get_or}
+use Rattle.std.specs.Prelude.{◌≡◌, Bool, cond, ◌&&◌, List, [], ◌∷◌, ℕ, ltb, eqb, get_or, Option, Some, None}
 use Rattle.object.specs.declared.types.Verdict.{Verdict}
 use Rattle.object.specs.declared.types.Verdict.TheVariants as verdict
 use Rattle.checks.specs.Check.{verdict_number}
@@ -15,8 +15,6 @@ use Rattle.planner.specs.declared.types.Course.TheVariants as course
 use Rattle.planner.specs.declared.types.Planner.{Planner}
 use Rattle.planner.specs.Coming.{Sound}
 use Rattle.planner.specs.Step.{planner_at}
-use Rattle.stored.specs.declared.types.Loaded.{Loaded}
-use Rattle.stored.specs.declared.types.Loaded.TheVariants as loaded
 use Rattle.stored_fields.specs.Test.{counts_test}
 use Rattle.stored_copy.specs.Course.{copy_words, copy_from, copy_test, place_test}
 use Rattle.stored_copy.specs.Course as copied
@@ -54,9 +52,9 @@ pub record WordsOf (p : Planner) (ws : List ℕ) : Type 0 where
   pub sound : Sound p
 
 -- what words give: the planner whose words they are; nothing, exactly where they are no sound planner's
-abbrev pub LoadedIs : List ℕ → Loaded → Type 0
-LoadedIs ws (loaded.Is p) = WordsOf p ws
-LoadedIs ws loaded.Nothing = (p : Planner) → WordsOf p ws → ⊥
+abbrev pub LoadedIs : List ℕ → Option Planner → Type 0
+LoadedIs ws (Some p) = WordsOf p ws
+LoadedIs ws None = (p : Planner) → WordsOf p ws → ⊥
 
 -- ---- the planner of any words, and the test that it is sound
 

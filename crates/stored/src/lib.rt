@@ -2,7 +2,5 @@
 #![tactic(auto)]
 
 mod planner_words;
-mod types;
 
 pub use planner_words::{load, stored};
-pub use types::Loaded;

@@ -3,7 +3,6 @@ ghost use Rattle.std.specs.Prelude.{◌≡◌};
 ghost use Rattle.stored.specs.Stored.{over_words, StoredIs, LoadedIs, verdict_from, counts_from, course_from, planner_from, sound_test};
 ghost use Rattle.stored.specs.Same.{Same};
 
-use crate::types::Loaded;
 use checks::number;
 use copy::Due;
 use object::Verdict;
@@ -141,16 +140,16 @@ fn same(a: [u64; 39], b: [u64; 39]) -> bool
 }
 
 // The planner of any words; nothing where they are no sound planner's. A planner's words are its own: what the test leaves open, such as a word that the course does not use, must be as `stored` would have it.
-pub fn load(words: [u64; 39]) -> Loaded
+pub fn load(words: [u64; 39]) -> Option<Planner>
     ensures { LoadedIs words result }
 {
     if !sound(&words) {
-        return Loaded::Nothing;
+        return None;
     }
     let p = planner_from(&words);
     let again = stored(p);
     if !same(words, again) {
-        return Loaded::Nothing;
+        return None;
     }
-    Loaded::Is(p)
+    Some(p)
 }

@@ -9,7 +9,7 @@ ghost use Rattle.stored_copy.specs.Course.{stage_word, copy_words, stage_from, c
 use copy::{Due, Place, Stage};
 use measures::{Quarters, quarters};
 use plan::{Copy, Strip};
-use stored_fields::{flag_word, room, signed_of};
+use stored_fields::{room, signed_of};
 use strips::texels_per_word;
 use words::Counts;
 
@@ -36,7 +36,7 @@ pub fn copy_words(stage: Stage, p: Place, n: Counts) -> [u64; 39]
     let c = p.copy;
     let s = p.strip;
     let k = stage_word(stage);
-    let flip = flag_word(c.flip);
+    let flip = u64::from(c.flip);
     let left = quarters(c.left);
     let top = quarters(c.top);
     [

@@ -1,30 +1,19 @@
-// The single words of a stored planner: flags, signed numbers, counts; sums that could wrap are tested with none.
+// The single words of a stored planner: signed numbers and counts; sums that could wrap are tested with none.
 #![tactic(auto)]
 
 ghost use Rattle.std.specs.Prelude.{◌≡◌, ◌+◌, leb};
 ghost use Rattle.std.specs.Int.{w64};
 ghost use Rattle.std.proofs.Common.{to_z};
 ghost use Rattle.signed.specs.Diff.{up, dn};
-ghost use Rattle.stored_fields.specs.Signed.{flag_word};
 ghost use Rattle.stored_fields.specs.Test.{counts_test};
 
 use words::Counts;
-
-pub fn flag_word(t: bool) -> u64
-    ensures { result ≡ flag_word t }
-{
-    if t { 1 } else { 0 }
-}
 
 // A word as a signed number.
 pub fn signed_of(n: u64) -> i64
     ensures { result ≡ to_z w64 n }
 {
-    if n < 0x8000_0000_0000_0000 {
-        n as i64
-    } else {
-        -((0xffff_ffff_ffff_ffff - n) as i64) - 1
-    }
+    n.cast_signed()
 }
 
 // How far a word, as a signed number, lies above 0, and how far below. Tests take these, so that none of their sums is signed.

@@ -17,30 +17,13 @@ use words::Counts;
 fn stage_word(s: Stage) -> u64
     ensures { result ≡ stage_word s }
 {
-    match s {
-        Stage::First => 8,
-        Stage::Second => 9,
-        Stage::Whole => 10,
-        Stage::WholeLoad => 11,
-        Stage::Tile => 12,
-        Stage::Image => 13,
-        Stage::Load => 14,
-        Stage::Last => 15,
-        Stage::Size => 16,
-        Stage::Rect => 17,
-    }
+    8 + s as u64
 }
 
 fn piece_word(s: Piece) -> u64
     ensures { result ≡ piece_word s }
 {
-    match s {
-        Piece::Start => 0,
-        Piece::Top => 1,
-        Piece::SplitB => 2,
-        Piece::SplitA => 3,
-        Piece::Rest => 4,
-    }
+    s as u64
 }
 
 pub fn scaled_words(stage: Stage, p: Place, n: Counts) -> [u64; 39]
@@ -292,7 +275,7 @@ fn pass_sound(words: &[u64; 39]) -> bool
     let draw = above(words[24]) / 1024;
     (1 <= draw)
         & (1 <= lines)
-        & (words[30] == signed::least(draw, lines))
+        & (words[30] == draw.min(lines))
         & (below(words[29]) <= 0x1000_0000)
         & (above(words[29]) <= 512)
         & whole_sound(words)
@@ -318,7 +301,7 @@ fn rect_sound(words: &[u64; 39]) -> bool
     (lines <= draw)
         | (room(
             below(words[37]),
-            1280000 * signed::minus(lines, draw),
+            1280000 * lines.saturating_sub(draw),
             0x100_0000_0000 + 20000 * rows,
         ) & (above(words[37]) <= 0x1000_0000))
 }
@@ -388,7 +371,7 @@ pub fn scaled_left(stage: Stage, words: &[u64; 39]) -> u64
 {
     let lines = above(words[23]);
     let all = 14 * lines;
-    let later = 14 * signed::minus(lines, 1);
+    let later = 14 * lines.saturating_sub(1);
     let after = after_piece(piece_from(words[38]));
     match stage {
         Stage::First => 3 + all,

@@ -42,9 +42,7 @@ pub fn visor_run(
         return 1;
     }
     let q = request::from_words(request);
-    let ended = runs::run(
-        object, q.opcode, q.scissor, q.mode, q.address, &mut *bank, &mut *plan,
-    );
+    let ended = runs::run(object, q, &mut *bank, &mut *plan);
     giving::end_into(&mut *end, ended);
     0
 }
@@ -60,7 +58,7 @@ pub fn visor_count(object: &[u8], request: &[u64], end: &mut [u64]) -> u64
         return 1;
     }
     let q = request::from_words(request);
-    let ended = runs::count(object, q.opcode, q.scissor, q.mode, q.address);
+    let ended = runs::count(object, q);
     giving::end_into(&mut *end, ended);
     0
 }

@@ -109,8 +109,8 @@ pub fn load(z: Scaled, q: Part) -> Result<Entry, Refused>
             index: 7,
             uls: 0,
             ult: 0,
-            lrs: u64::from(lrs),
-            lrt: u64::from(lrt),
+            lrs: lrs as u64,
+            lrt: lrt as u64,
             words: request.words,
             rows: request.rows,
             stride: request.stride,
@@ -131,7 +131,7 @@ pub fn load(z: Scaled, q: Part) -> Result<Entry, Refused>
 fn short(x: i64) -> i64
     ensures { result ≡ i16 x }
 {
-    signed::wide(signed::signed16(x))
+    i64::from(signed::signed16(x))
 }
 
 // A frame position that is known not to be negative, so that no test is needed.

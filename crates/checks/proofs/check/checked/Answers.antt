@@ -17,7 +17,7 @@ returns-in_err-bg c =
     (short_refused 4 _ _ _ (sym c.opcode_bad.ensures ∙ c.if-opcode_bad.false) (sym c.decode_obj_bg.ensures ∙ none)))
 
 pub returns-then-scissor_bad : goal.returns-then-scissor_bad
-returns-then-scissor_bad c = 
+returns-then-scissor_bad c =
     let some : c.decode_obj_bg.result ≡ Some c.in_ok-bg.bg = grind arith in
     checked_is _ _ _ _ (λ k. (c.type_inv.object k).fits)
     (rw (sym c.scissor_bad.ensures ∙ c.if-scissor_bad.true) at (object_checked 4 _ _ c.args.scissor c.in_ok-bg.bg (sym c.opcode_bad.ensures ∙ c.if-opcode_bad.false) (sym c.decode_obj_bg.ensures ∙ some)))

@@ -9,14 +9,14 @@ returns-in-Scaled c =
     let a = c.args in
     let g = c.in-Scaled.is in
     let k = c.checked.ensures in
-    found_scaled (request_of a.object.now a.opcode a.scissor a.mode a.address) _ (sym k.is ∙ g) (rw g at k.known) c.ranges.address.fits c.scaled_found.result c.scaled_found.ensures
+    found_scaled (with_bytes a.object.now a.q) _ (sym k.is ∙ g) (rw g at k.known) c.ranges.address.fits c.scaled_found.result c.scaled_found.ensures
 
 pub returns-in-Copy : goal.returns-in-Copy
 returns-in-Copy c =
     let a = c.args in
-    nothing_copied (request_of a.object.now a.opcode a.scissor a.mode a.address) _ (sym c.checked.ensures.is ∙ c.in-Copy.is)
+    nothing_copied (with_bytes a.object.now a.q) _ (sym c.checked.ensures.is ∙ c.in-Copy.is)
 
 pub returns-in-Refused : goal.returns-in-Refused
 returns-in-Refused c =
     let a = c.args in
-    nothing_refused (request_of a.object.now a.opcode a.scissor a.mode a.address) _ (sym c.checked.ensures.is ∙ c.in-Refused.is)
+    nothing_refused (with_bytes a.object.now a.q) _ (sym c.checked.ensures.is ∙ c.in-Refused.is)

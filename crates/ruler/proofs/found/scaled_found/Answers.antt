@@ -6,16 +6,16 @@ use Rattle.ruler.proofs.found.scaled_found.Goals as goal
 use Rattle.ruler.proofs.found.scaled_found.Goals.{After-first_of}
 
 pub returns-then-clip_empty : goal.returns-then-clip_empty
-returns-then-clip_empty c = set_empty c.args.bg c.args.scissor c.args.mode c.args.address (rw c.clip_of-c.ensures.is at (sym c.clip_empty.ensures ∙ c.if-clip_empty.true))
+returns-then-clip_empty c = set_empty c.args.bg c.args.q.scissor c.args.q.mode c.args.q.address (rw c.clip_of-c.ensures.is at (sym c.clip_empty.ensures ∙ c.if-clip_empty.true))
 
 pub returns-then-slices_bad : goal.returns-then-slices_bad
 returns-then-slices_bad c =
     let k = c.clip_of-c.ensures.is in
-    set_bad c.args.bg c.args.scissor c.args.mode c.args.address (rw k at (sym c.clip_empty.ensures ∙ c.if-clip_empty.false))
+    set_bad c.args.bg c.args.q.scissor c.args.q.mode c.args.q.address (rw k at (sym c.clip_empty.ensures ∙ c.if-clip_empty.false))
     (rw (c.scaled_of-z.ensures.is, c.start_of-i.ensures.is, k) at (sym c.slices_bad.ensures ∙ c.if-slices_bad.true))
 
 -- what the calls have promised
-parts : (c : After-first_of) → Set c.args.bg c.args.scissor c.args.mode c.args.address c.clip_of-c.result c.start_of-i.result c.scaled_of-z.result c.first_of.result
+parts : (c : After-first_of) → Set c.args.bg c.args.q.scissor c.args.q.mode c.args.q.address c.clip_of-c.result c.start_of-i.result c.scaled_of-z.result c.first_of.result
 parts c =
     record {
       usable = usable c.requires;
