@@ -1,3 +1,2 @@
 -- A planner as words.
-pub mod Same
 pub mod Stored

@@ -1,7 +1,6 @@
 // A planner in 39 words and out of them.
 ghost use Rattle.std.specs.Prelude.{◌≡◌};
 ghost use Rattle.stored.specs.Stored.{over_words, StoredIs, LoadedIs, verdict_from, counts_from, course_from, planner_from, sound_test};
-ghost use Rattle.stored.specs.Same.{Same};
 
 use checks::number;
 use copy::Due;
@@ -125,20 +124,6 @@ fn sound(words: &[u64; 39]) -> bool
     counts_sound(n, stored_scaled::scaled_left(stage, words))
 }
 
-// Whether the words are the same, one by one.
-fn same(a: [u64; 39], b: [u64; 39]) -> bool
-    ensures { Same a b result }
-{
-    let mut i: usize = 0;
-    while i < 39 {
-        if a[i] != b[i] {
-            return false;
-        }
-        i = i + 1;
-    }
-    true
-}
-
 // The planner of any words; nothing where they are no sound planner's. A planner's words are its own: what the test leaves open, such as a word that the course does not use, must be as `stored` would have it.
 pub fn load(words: [u64; 39]) -> Option<Planner>
     ensures { LoadedIs words result }
@@ -147,9 +132,9 @@ pub fn load(words: [u64; 39]) -> Option<Planner>
         return None;
     }
     let p = planner_from(&words);
-    let again = stored(p);
-    if !same(words, again) {
-        return None;
+    if words == stored(p) {
+        Some(p)
+    } else {
+        None
     }
-    Some(p)
 }

@@ -1,5 +1,6 @@
 -- A call's text is out and the rest is to come: the pieces joined are the whole text.
 use Rattle.std.proofs.Common.{arith, refl, sym, ap, ◌∙◌, ◌≡◌, [], ◌++◌, List, ℕ, Bool, true, false, take, append_assoc, append-nil, subst}
+use Rattle.std.proofs.lemmas.List.{length-replicate}
 use Rattle.std.specs.Io.KnownBytes.{Appends}
 use Rattle.std.proofs.KnownBytes.{Appends-nil, Appends-trans}
 use Rattle.planner.specs.declared.types.Planner.{Planner}
@@ -17,7 +18,7 @@ module _ (k : List ℕ) (text : List ℕ) (p : Planner) (out out' : List ℕ) (r
       ∙ sym (append_assoc text (take r.count out') _)
 
 pub loop-planner-init : goal.loop-planner-init
-loop-planner-init g c = record { text = []; out = Appends-nil _; rest = refl; room = sym c.piece-piece.ensures; sound = c.requires }
+loop-planner-init g c = record { text = []; out = Appends-nil _; rest = refl; room = length-replicate {A = ℕ} 262144 0; sound = c.requires }
 
 pub returns-then-chunk : goal.returns-then-chunk
 returns-then-chunk g c =
