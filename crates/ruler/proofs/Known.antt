@@ -160,13 +160,13 @@ pub nothing_refused : (q : Request) (v : Verdict) → checked_of 4 q.bytes q.opc
 unfolding set_up plan_of plan_with checked_out
 nothing_refused q v e = (rw e, drifts_none q (rw e))
 
-no_copy : (a b c : Bool) (bg bg' : ObjBg) → refused_by a verdict.Short (refused_by b verdict.Scissor (refused_by c verdict.Object (Ok (background.Scaled bg)))) ≡ Ok (background.Copy bg) ' → ⊥
+no_copy : (a b c : Bool) (bg bg' : ObjBg) → refused_by a verdict.Short (refused_by b verdict.Scissor (refused_by c verdict.Object (Ok (background.Scaled bg)))) ≡ Ok (background.Copy bg') → ⊥
 no_copy true b c bg bg' e = let z : ◌≡◌ {A = ℕ} 0 1 = cc in omega arith
 no_copy false true c bg bg' e = let z : ◌≡◌ {A = ℕ} 0 1 = cc in omega arith
 no_copy false false true bg bg' e = let z : ◌≡◌ {A = ℕ} 0 1 = cc in omega arith
 no_copy false false false bg bg' e = let z : ◌≡◌ {A = ℕ} 0 1 = cc in omega arith
 
-no_scaled : (a b c d : Bool) (bg bg' : ObjBg) → refused_by a verdict.Short (refused_by b verdict.Scissor (refused_by c verdict.Object (refused_by d verdict.Copy (Ok (background.Copy bg))))) ≡ Ok (background.Scaled bg) ' → ⊥
+no_scaled : (a b c d : Bool) (bg bg' : ObjBg) → refused_by a verdict.Short (refused_by b verdict.Scissor (refused_by c verdict.Object (refused_by d verdict.Copy (Ok (background.Copy bg))))) ≡ Ok (background.Scaled bg') → ⊥
 no_scaled true b c d bg bg' e = let z : ◌≡◌ {A = ℕ} 0 1 = cc in omega arith
 no_scaled false true c d bg bg' e = let z : ◌≡◌ {A = ℕ} 0 1 = cc in omega arith
 no_scaled false false true d bg bg' e = let z : ◌≡◌ {A = ℕ} 0 1 = cc in omega arith

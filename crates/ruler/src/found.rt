@@ -75,7 +75,8 @@ pub fn ruler_of(object: &[u8], q: Request) -> Option<Ruler>
 {
     match checks::checked(object, q.opcode, q.scissor) {
         Ok(Background::Scaled(bg)) => scaled_found(bg, q),
-        Ok(Background::Copy(_)) | Err(_) => None,
+        Ok(Background::Copy(_)) => None,
+        Err(_) => None,
     }
 }
 

@@ -4,4 +4,4 @@ use Rattle.stored_scaled.proofs.pass_sound.Goals as goal
 
 pub returns : goal.returns
 unfolding place_from walk_from pass_test
-returns c = rw (c.whole_sound.ensures, c.above.ensures, c.below.ensures, c.least.ensures, c.above-draw.ensures, c.above-lines.ensures)
+returns c = rw (c.whole_sound.ensures, c.above.ensures, c.below.ensures, c.min.ensures, c.above-draw.ensures, c.above-lines.ensures)

@@ -1,27 +1,31 @@
 -- The parts keep their promises, one after another; three lengths are tested first.
+use Rattle.std.proofs.Common.{◌≡◌, subst, List, ℕ}
+use Rattle.plan.specs.Whole.{plan_of}
+use Rattle.request.specs.Host.{with_bytes, host_request}
 use Rattle.visorlongan.proofs.Left.{odd_request, odd_bank, odd_end, ran}
 use Rattle.visorlongan.proofs.visor_run.Goals as goal
 
-pub returns-then-request-ne-REQUEST : goal.returns-then-request-ne-REQUEST
-returns-then-request-ne-REQUEST c = let a = c.args in odd_request a.object.now a.request.now a.bank.now a.plan.now a.end.now c.if-request-ne-REQUEST.true
+pub returns-in_default : goal.returns-in_default
+returns-in_default c = let a = c.args in odd_request a.object.now a.request.now a.bank.now a.plan.now a.end.now c.in_default.ensures.1
 
 pub returns-then-bank-ne-BANK : goal.returns-then-bank-ne-BANK
-returns-then-bank-ne-BANK c = let a = c.args in odd_bank a.object.now a.request.now a.bank.now a.plan.now a.end.now c.if-request-ne-REQUEST.false c.if-bank-ne-BANK.true
+returns-then-bank-ne-BANK c = let a = c.args in odd_bank a.object.now a.request.now a.bank.now a.plan.now a.end.now c.in-Ok.ensures.1.long c.if-bank-ne-BANK.true
 
 pub returns-then-end-ne-END : goal.returns-then-end-ne-END
-returns-then-end-ne-END c = let a = c.args in odd_end a.object.now a.request.now a.bank.now a.plan.now a.end.now c.if-request-ne-REQUEST.false c.if-bank-ne-BANK.false c.if-end-ne-END.true
+returns-then-end-ne-END c = let a = c.args in odd_end a.object.now a.request.now a.bank.now a.plan.now a.end.now c.in-Ok.ensures.1.long c.if-bank-ne-BANK.false c.if-end-ne-END.true
 
 pub returns : goal.returns
 returns c =
     let a = c.args in
+    let w = c.in-Ok.ensures.1 in
     ran a.object.now a.request.now a.bank.now a.plan.now a.end.now
     c.from_words-q.result
-    c.from_words-q.ensures.plan
+    (subst (λ (ws : List ℕ). (bytes : List ℕ) → plan_of (with_bytes bytes c.from_words-q.result) ≡ plan_of (host_request bytes ws)) w.same c.from_words-q.ensures.plan)
     _
     _
     _
     c.run-ended.result
-    c.if-request-ne-REQUEST.false
+    w.long
     c.if-bank-ne-BANK.false
     c.if-end-ne-END.false
     c.run-ended.ensures

@@ -7,4 +7,4 @@ pub returns-in_default : goal.returns-in_default
 returns-in_default c = absurd (omega (arith, short_of c.args.bytes.now c.in_default.ensures))
 
 pub returns : goal.returns
-returns c = (request_of c.args.bytes.now c.in-Request.q c.in-Request.ensures).1
+returns c = (request_of c.args.bytes.now c.in-Some.q c.in-Some.ensures).1

@@ -20,7 +20,7 @@ returns-in-Some c =
     let e = rw (k, rd c.ranges.ult) at d.ensures in
     let r = rk d.result d.type_inv ∙ e in
     rect_is c.args.r c.args.p c.args.uly c.args.lry c.args.ult c.args.row _ _ _ c.requires.0 c.requires.1.0 n c.requires.1.1.0 (subst (SFits w64) e (record { sfits = d.type_inv }))
-    (λ i. record { line = c.in-Some.s.earlier; strip = k i; distance = r i }) (rw c.saturating_sub.ensures at c.drawn.ensures)
+    (λ i. record { line = c.in-Some.s.earlier; strip = k i; distance = r i }) (rw c.saturating_sub-lines.ensures at c.drawn.ensures)
 
 pub returns-in-None : goal.returns-in-None
 returns-in-None c = rect_over c.args.r c.args.p c.args.uly c.args.lry c.args.ult c.args.row c.in-None.ensures

@@ -21,23 +21,23 @@ begun bg s mode address c i z f r k j l m t u g = scaled_begins bg s mode addres
 pub returns-then-clip_empty : goal.returns-then-clip_empty
 returns-then-clip_empty c =
     let a = c.args in
-    scaled_none a.bg a.scissor a.mode a.address (rw c.clip_of-c.ensures.is at (sym c.clip_empty.ensures ∙ c.if-clip_empty.true))
+    scaled_none a.bg a.q.scissor a.q.mode a.q.address (rw c.clip_of-c.ensures.is at (sym c.clip_empty.ensures ∙ c.if-clip_empty.true))
 
 pub returns-then-slices_bad : goal.returns-then-slices_bad
 returns-then-slices_bad c =
     let a = c.args in
     let k = c.clip_of-c.ensures.is in
-    scaled_bad a.bg a.scissor a.mode a.address (rw k at (sym c.clip_empty.ensures ∙ c.if-clip_empty.false))
+    scaled_bad a.bg a.q.scissor a.q.mode a.q.address (rw k at (sym c.clip_empty.ensures ∙ c.if-clip_empty.false))
     (rw (c.scaled_of-z.ensures.is, c.start_of-i.ensures.is, k) at (sym c.slices_bad.ensures ∙ c.if-slices_bad.true))
 
 pub returns-in-Ok : goal.returns-in-Ok
 returns-in-Ok c =
     let a = c.args in
-    begun a.bg a.scissor a.mode a.address _ _ _ _ _ c.clip_of-c.ensures.is c.start_of-i.ensures.is c.scaled_of-z.ensures.is c.first_of.ensures.is
+    begun a.bg a.q.scissor a.q.mode a.q.address _ _ _ _ _ c.clip_of-c.ensures.is c.start_of-i.ensures.is c.scaled_of-z.ensures.is c.first_of.ensures.is
     (sym c.clip_empty.ensures ∙ c.if-clip_empty.false) (sym c.slices_bad.ensures ∙ c.if-slices_bad.false) c.in-Ok.ensures
 
 pub returns-in-Err : goal.returns-in-Err
 returns-in-Err c =
     let a = c.args in
-    begun a.bg a.scissor a.mode a.address _ _ _ _ _ c.clip_of-c.ensures.is c.start_of-i.ensures.is c.scaled_of-z.ensures.is c.first_of.ensures.is
+    begun a.bg a.q.scissor a.q.mode a.q.address _ _ _ _ _ c.clip_of-c.ensures.is c.start_of-i.ensures.is c.scaled_of-z.ensures.is c.first_of.ensures.is
     (sym c.clip_empty.ensures ∙ c.if-clip_empty.false) (sym c.slices_bad.ensures ∙ c.if-slices_bad.false) c.in-Err.ensures
