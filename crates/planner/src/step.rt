@@ -63,7 +63,7 @@ fn scaled_step(stage: loads::Stage, place: loads::Place, n: Counts) -> Step
     ensures { StepGives (record { course = Course.Scaled stage place; counts = n }) result }
 {
     match passes::scaled_next(stage, place) {
-        // A course for both answers of a pass would be made in memory at every step.
+        // One arm for each answer of a pass: a course for both, or a match within the arm, would be made in memory at every step.
         Ok((entry, Ok((stage, place)))) => give(Course::Scaled(stage, place), n, entry),
         Ok((entry, Err(v))) => give(Course::Over(v), n, entry),
         Err(Refused(size)) => refuse(n, size),
