@@ -58,10 +58,5 @@ pub fn end_line(out: &mut [u8], at: usize, e: End) -> usize
     requires { at + 128 ≤ length out.old }
     ensures { PutIs out.old at (end_text e) out.new result }
 {
-    row(
-        out,
-        at,
-        [2, 8, 8, 8, 8, 0, 0, 0, 0, 0, 0],
-        end_words(e),
-    )
+    row(out, at, [2, 8, 8, 8, 8, 0, 0, 0, 0, 0, 0], end_words(e))
 }
