@@ -32,12 +32,11 @@ use Rattle.words.specs.Counts.{counted_of, counted_all, end_with}
 use Rattle.words.proofs.CountsLaws.{counted_countable, counted_entries}
 use Rattle.planner.specs.declared.types.Course.{Course}
 use Rattle.planner.specs.declared.types.Course.TheVariants as course
-use Rattle.planner.specs.declared.types.Planner.{Planner}
+use Rattle.planner.specs.Planner.{Planner, planner_at, SoundCourse, left_course, Sound}
 use Rattle.planner.specs.declared.types.Given.{Given}
 use Rattle.planner.specs.declared.types.Given.TheVariants as given
 use Rattle.planner.specs.declared.types.Step.{Step}
-use Rattle.planner.specs.Coming.{coming_course, coming_from, coming, SoundCourse, left_course, Sound, counts_next, answer_in, left_in, GivenIn, left_next, StepGives, StepIs, give_of, stop_of, refuse_of, course_of}
-use Rattle.planner.specs.Step.{planner_at}
+use Rattle.planner.specs.Coming.{coming_course, coming_from, coming, counts_next, answer_in, left_in, GivenIn, left_next, StepGives, StepIs, give_of, stop_of, refuse_of, course_of}
 
 -- what is to come of a planner whose plan starts with e
 given_answer : (p : Plan) (n : Counts) (e : Entry) (q : Plan) → p ≡ cons e q → answer_of (coming_from p n).entries (coming_from p n).end ≡ answer.Entry e

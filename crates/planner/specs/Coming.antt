@@ -18,15 +18,12 @@ use Rattle.plan.specs.Steps.{Coming, coming_of, next_of, answer_of, bank_next}
 use Rattle.copy.specs.declared.types.Due.TheVariants as due
 use Rattle.copy.specs.declared.types.Stage.TheVariants as stage
 use Rattle.copy.specs.Coming.{coming_copy}
-use Rattle.copy.specs.Walk as walk
-use Rattle.copy.specs.Kept.{left_copy}
 use Rattle.loads.specs.Coming.{Reached, coming_scaled}
-use Rattle.loads.specs.Sound.{SoundAt, left_at}
 use Rattle.words.specs.declared.count.Counts.{Counts}
-use Rattle.words.specs.Counts.{Countable, zero_counts, counted_of, counted_all, end_with}
+use Rattle.words.specs.Counts.{zero_counts, counted_of, counted_all, end_with}
 use Rattle.planner.specs.declared.types.Course.{Course}
 use Rattle.planner.specs.declared.types.Course.TheVariants as course
-use Rattle.planner.specs.declared.types.Planner.{Planner}
+use Rattle.planner.specs.Planner.{Planner, SoundCourse, left_course, Sound}
 use Rattle.planner.specs.declared.types.Given.{Given}
 use Rattle.planner.specs.declared.types.Given.TheVariants as given
 use Rattle.planner.specs.declared.types.Step.{Step}
@@ -44,23 +41,6 @@ coming_from plan n = record { entries = plan.entries; left = plan.left; end = en
 
 unfoldable pub coming : Planner → Coming
 coming p = coming_from (coming_course p.course) p.counts
-
--- the ranges of a course, and how many entries it has at the most
-abbrev pub SoundCourse : Course → Type 0
-SoundCourse (course.Copy s p) = walk.SoundAt s p
-SoundCourse (course.Scaled s p) = SoundAt s p
-SoundCourse (course.Over v) = Unit {0}
-
-abbrev pub left_course : Course → ℕ
-left_course (course.Copy s p) = left_copy s p
-left_course (course.Scaled s p) = left_at s p
-left_course (course.Over v) = 0
-
--- what `fresh` and `step` promise of every planner that they return
-pub record Sound (p : Planner) : Type 0 where
-  pub course : SoundCourse p.course
-  pub counts : Countable p.counts
-  pub few : p.counts.entries + left_course p.course ≤ 2 ^ 40
 
 -- the counts after the first of what is to come
 abbrev pub counts_next : List Entry → Counts → Counts

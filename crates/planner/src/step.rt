@@ -2,7 +2,8 @@
 ghost use Rattle.std.specs.Prelude.{◌≡◌};
 ghost use Rattle.plan.specs.Sound.{EntryIn};
 ghost use Rattle.words.specs.Counts.{Countable};
-ghost use Rattle.planner.specs.Coming.{Sound, StepGives, StepIs, give_of, stop_of, refuse_of};
+ghost use Rattle.planner.specs.Planner.{Sound};
+ghost use Rattle.planner.specs.Coming.{StepGives, StepIs, give_of, stop_of, refuse_of};
 
 use crate::types::{Course, Given, Planner, Step, Stepped};
 use copy::CopyEnd;
@@ -13,7 +14,8 @@ use tile::Bank;
 use words::Counts;
 
 fn give(course: Course, n: Counts, entry: Entry) -> Step
-    requires { (Countable n) × EntryIn entry }
+    requires given { (Countable n) × EntryIn entry }
+    requires sound { Sound (give_of course n entry).planner }
     ensures { result ≡ give_of course n entry }
 {
     let counts = words::counted(n, entry);
@@ -23,6 +25,7 @@ fn give(course: Course, n: Counts, entry: Entry) -> Step
 }
 
 fn stop(n: Counts, verdict: Verdict) -> Step
+    requires { Sound (stop_of n verdict).planner }
     ensures { result ≡ stop_of n verdict }
 {
     let planner = Planner {
@@ -35,6 +38,7 @@ fn stop(n: Counts, verdict: Verdict) -> Step
 
 // Verdict 9 at a load, which has set its tile's size.
 fn refuse(n: Counts, size: Entry) -> Step
+    requires { Sound (refuse_of n size).planner }
     ensures { result ≡ refuse_of n size }
 {
     let verdict = Verdict::Address;
@@ -73,7 +77,6 @@ fn scaled_step(stage: loads::Stage, place: loads::Place, n: Counts) -> Step
 impl Planner {
     // The planner, with one entry or the end; after the end the same end.
     pub fn step(self) -> Step
-        requires { Sound self }
         ensures { StepGives self result }
     {
         let course = self.course;
@@ -86,7 +89,6 @@ impl Planner {
 
     // A step that takes the caller's bank along; after the end the bank is left alone.
     pub fn step_with(self, bank: Bank) -> Stepped
-        requires { Sound self }
         ensures { StepIs self bank result }
     {
         let s = self.step();

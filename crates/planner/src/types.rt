@@ -2,6 +2,7 @@
 use object::Verdict;
 use plan::{Answer, End, Entry};
 use tile::Bank;
+use std::marker::Model;
 use words::Counts;
 
 // Where a plan stands: in a copy plan, in a scaled plan, or at its end.
@@ -12,11 +13,23 @@ pub enum Course {
     Over(Verdict),
 }
 
-// A planner is stepped where it is proved sound, as those of `fresh` and `step` are.
+// Every planner is sound: whoever makes one has to prove it, so that a step asks nothing of its caller.
 #[derive(Clone, Copy)]
 pub struct Planner {
     pub course: Course,
     pub counts: Counts,
+}
+
+impl Model for Planner {
+    ghost use Rattle.planner.specs.Planner.{Planner as Numbers, planner_at, Sound};
+
+    ghost Value = { Numbers };
+
+    ghost view = { λ p. planner_at p.course p.counts };
+
+    ghost invariant = { λ p. Sound (planner_at p.course p.counts) };
+
+    ghost inverse = { λ n. record { course = n.course; counts = n.counts } };
 }
 
 // What a step gives: an entry, or the end. A load that is refused has set its tile's size, which is no entry, before the end.

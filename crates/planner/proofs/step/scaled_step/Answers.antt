@@ -3,17 +3,35 @@ use Rattle.planner.specs.declared.types.Course.TheVariants as course
 use Rattle.planner.proofs.StepLaws.{step_refused, step_scaled}
 use Rattle.planner.proofs.step.scaled_step.Goals as goal
 
+pub give-requires-clause-sound : goal.give-requires-clause-sound
+give-requires-clause-sound c =
+    let a = c.args in
+    let g = rw c.in-Ok-default-Ok.is at c.scaled_next.ensures in
+    (rw c.in-Ok-default-Ok.field-0-1-is at (step_scaled a.stage a.place a.n _ c.in-Ok-default-Ok.field-0-1 g c.requires)).sound
+
 pub returns-in-Ok-default-Ok : goal.returns-in-Ok-default-Ok
 returns-in-Ok-default-Ok c =
     let a = c.args in
     let g = rw c.in-Ok-default-Ok.is at c.scaled_next.ensures in
     rw c.give.ensures (rw c.in-Ok-default-Ok.field-0-1-is at (step_scaled a.stage a.place a.n _ c.in-Ok-default-Ok.field-0-1 g c.requires))
 
+pub give-requires-in-Ok-default-Err-clause-sound : goal.give-requires-in-Ok-default-Err-clause-sound
+give-requires-in-Ok-default-Err-clause-sound c =
+    let a = c.args in
+    let g = rw c.in-Ok-default-Err.is at c.scaled_next.ensures in
+    (rw c.in-Ok-default-Err.field-0-1-is at (step_scaled a.stage a.place a.n _ c.in-Ok-default-Err.field-0-1 g c.requires)).sound
+
 pub returns-in-Ok-default-Err : goal.returns-in-Ok-default-Err
 returns-in-Ok-default-Err c =
     let a = c.args in
     let g = rw c.in-Ok-default-Err.is at c.scaled_next.ensures in
     rw c.give-in-Ok-default-Err.ensures (rw c.in-Ok-default-Err.field-0-1-is at (step_scaled a.stage a.place a.n _ c.in-Ok-default-Err.field-0-1 g c.requires))
+
+pub refuse-requires : goal.refuse-requires
+refuse-requires c =
+    let a = c.args in
+    let g = rw c.in-Err.is at c.scaled_next.ensures in
+    (step_refused (course.Scaled a.stage a.place) a.n _ g.0 g.1 c.requires).sound
 
 pub returns-in-Err : goal.returns-in-Err
 returns-in-Err c =
