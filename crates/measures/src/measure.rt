@@ -18,10 +18,10 @@ impl From<u16> for Quarters {
 }
 
 impl From<i16> for Quarters {
-    ghost from_gives = { λ n q. q ≡ in_quarters n };
+    ghost from_gives = { λ z q. q ≡ in_quarters z };
 
-    fn from(n: i16) -> Quarters {
-        Quarters(i64::from(n))
+    fn from(z: i16) -> Quarters {
+        Quarters(i64::from(z))
     }
 }
 
@@ -34,10 +34,10 @@ impl From<u16> for ThirtySeconds {
 }
 
 impl From<i32> for ThirtySeconds {
-    ghost from_gives = { λ n t. t ≡ in_thirty_seconds n };
+    ghost from_gives = { λ z t. t ≡ in_thirty_seconds z };
 
-    fn from(n: i32) -> ThirtySeconds {
-        ThirtySeconds(i64::from(n))
+    fn from(z: i32) -> ThirtySeconds {
+        ThirtySeconds(i64::from(z))
     }
 }
 

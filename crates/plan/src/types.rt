@@ -65,12 +65,8 @@ pub struct End {
     pub words: u64,
 }
 
-// What one step of a planner answers.
-#[derive(Clone, Copy)]
-pub enum Answer {
-    Entry(Entry),
-    End(End),
-}
+// What one step of a planner answers: an entry, or the end.
+pub type Answer = Result<Entry, End>;
 
 // What no strip of a copy plan changes; widths, heights, columns and rows count cells of 4 quarters.
 #[derive(Clone, Copy)]
