@@ -6,6 +6,8 @@ ghost use Rattle.applying.specs.Applied.{sets_nothing, sets_tile, sets_bounds, a
 
 use settling::{bounds_at, tile_at};
 
+// The words come from a host: their kind is a number, read here alone.
+
 // A texture image or a rectangle.
 fn sets_nothing(entry: &[u64; 11]) -> bool
     ensures { result ≡ sets_nothing entry.now }

@@ -68,6 +68,8 @@ pub struct End {
 // What one step of a planner answers: an entry, or the end.
 pub type Answer = Result<Entry, End>;
 
+// The facts on these numbers (`SoundCopy`, `SoundScaled`) stand in clauses and not in the types: the definitions make such records of any request, so that a model's value would be each record once more.
+
 // What no strip of a copy plan changes; widths, heights, columns and rows count cells of 4 quarters.
 #[derive(Clone, Copy)]
 pub struct Copy {
