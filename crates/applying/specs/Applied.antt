@@ -1,7 +1,8 @@
 -- What an entry of eleven words does to a bank's words, for hosts that follow a plan entry by entry. D is docs/SPECIFICATION.md, sections 5 and 9.
 -- Assumes nothing.
-use Rattle.std.specs.Prelude.{Bool, cond, ◌&&◌, ◌||◌, List, ℕ, eqb, ltb, get_or}
+use Rattle.std.specs.Prelude.{Result, Ok, Err, Bool, cond, ◌&&◌, ◌||◌, List, ℕ, eqb, ltb, get_or}
 use Rattle.giving.specs.Places.{tile_at, bounds_at}
+use Rattle.applying.specs.declared.NoEntry.{NoEntry}
 
 -- the answer, and the bank's words
 pub record Applied : Type 0 where
@@ -10,6 +11,11 @@ pub record Applied : Type 0 where
 
 abbrev pub applied : ℕ → List ℕ → Applied
 applied answer bank = record { answer = answer; bank = bank }
+
+-- the answer's number
+abbrev pub answer_of : Result (Unit {0}) NoEntry → ℕ
+answer_of (Ok u) = 0
+answer_of (Err e) = 1
 
 abbrev half : ℕ → Bool
 half n = ltb n 65536

@@ -2,28 +2,27 @@
 #![tactic(auto)]
 
 ghost use Rattle.std.specs.Prelude.{◌≡◌, length};
-ghost use Rattle.applying.specs.Applied.{sets_nothing, sets_tile, sets_bounds, applied, applied_of};
+ghost use Rattle.applying.specs.Applied.{sets_nothing, sets_tile, sets_bounds, answer_of, applied, applied_of};
 
 use settling::{bounds_at, tile_at};
 
+// The words come from a host: their kind is a number, read here alone.
+
 // A texture image or a rectangle.
-fn sets_nothing(entry: &[u64]) -> bool
-    requires { length entry.now ≡ 11 }
+fn sets_nothing(entry: &[u64; 11]) -> bool
     ensures { result ≡ sets_nothing entry.now }
 {
     (entry[0] == 1) | (entry[0] == 5)
 }
 
-fn sets_tile(entry: &[u64]) -> bool
-    requires { length entry.now ≡ 11 }
+fn sets_tile(entry: &[u64; 11]) -> bool
     ensures { result ≡ sets_tile entry.now }
 {
     (entry[0] == 2) & (entry[1] < 8)
 }
 
 // A size or a load: bounds of more than 16 bits are no tile's.
-fn sets_bounds(entry: &[u64]) -> bool
-    requires { length entry.now ≡ 11 }
+fn sets_bounds(entry: &[u64; 11]) -> bool
     ensures { result ≡ sets_bounds entry.now }
 {
     ((entry[0] == 3) | (entry[0] == 4))
@@ -32,22 +31,25 @@ fn sets_bounds(entry: &[u64]) -> bool
                 & ((entry[3] < 65536) & ((entry[4] < 65536) & (entry[5] < 65536)))))
 }
 
-// Sets what the entry sets and answers 0; answers 1, and sets nothing, where the words are no entry's.
-pub fn apply(bank: &mut [u64], entry: &[u64]) -> u64
-    requires { length entry.now ≡ 11 }
-    ensures { applied result bank.new ≡ applied_of entry.now bank.old }
+// The words are no entry's.
+#[derive(Clone, Copy)]
+pub struct NoEntry;
+
+// Sets what the entry sets, and nothing where the words are no entry's.
+pub fn apply(bank: &mut [u64], entry: &[u64; 11]) -> Result<(), NoEntry>
+    ensures { applied (answer_of result) bank.new ≡ applied_of entry.now bank.old }
 {
     if sets_nothing(entry) {
-        return 0;
+        return Ok(());
     }
     let index = entry[1];
     if sets_tile(entry) {
         tile_at(&mut *bank, index, entry, 1);
-        return 0;
+        return Ok(());
     }
     if sets_bounds(entry) {
         bounds_at(&mut *bank, index, entry, 1);
-        return 0;
+        return Ok(());
     }
-    1
+    Err(NoEntry)
 }

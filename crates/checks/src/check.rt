@@ -15,6 +15,7 @@ pub fn number(v: Verdict) -> u64
     v as u64
 }
 
+// The opcode stays the caller's byte: it is told apart here and by `checked` alone.
 fn opcode_bad(opcode: u8) -> bool
     ensures { result ≡ opcode_bad opcode }
 {

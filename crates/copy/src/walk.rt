@@ -297,6 +297,7 @@ fn strip_next(due: Due, p: Place) -> CopyNext
     Ok((entry, Stage::Tile7, place))
 }
 
+// The stages are data, and no closures: a host keeps a planner as words, and there is no heap.
 #[tactic(auto, unfolding(crate::specs::Walk::copy_next_of))]
 pub fn copy_next(stage: Stage, place: Place) -> CopyNext
     requires { SoundAt stage place }

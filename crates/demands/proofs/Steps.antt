@@ -1,14 +1,13 @@
 -- Demand 2 over any list of steps: n steps from a fresh planner answer the plan's first n entries and then its end for ever, and the bank is the fold over the entries given.
 -- A list of steps is any chain of results that meet `step`'s promise; so whatever a planner keeps in its private fields, this holds of it.
 -- Assumes nothing.
-use Rattle.std.specs.Prelude.{◌≡◌, refl, List, [], ◌∷◌, ℕ, length}
+use Rattle.std.specs.Prelude.{◌≡◌, refl, List, [], ◌∷◌, ℕ, length, Ok, Err}
 use Rattle.std.proofs.Common.{ap, ◌∙◌}
 use Rattle.object.specs.declared.types.Scissor.{Scissor}
 use Rattle.tile.specs.declared.bank.Bank.{Bank}
 use Rattle.plan.specs.declared.types.Entry.{Entry}
 use Rattle.plan.specs.declared.types.End.{End}
-use Rattle.plan.specs.declared.types.Answer.{Answer}
-use Rattle.plan.specs.declared.types.Answer.TheVariants as answer
+use Rattle.plan.specs.Steps.{Answer}
 use Rattle.plan.specs.Whole.{plan_of}
 use Rattle.plan.specs.Run.{end_of, bank_step, bank_after}
 use Rattle.plan.specs.Steps.{Coming, next_of, answer_of, bank_next, answers, bank_to}
@@ -36,13 +35,13 @@ steps_answer : {p : Planner} {b : Bank} {answered : List Answer} {p' : Planner} 
 unfolding answers
 steps_answer none es left e h = refl
 steps_answer (step {answered = answered} s i rest) [] left e h =
-    let a : s.answer ≡ answer.End e = i.answer ∙ ap (λ (c : Coming). answer_of c.entries c.end) h in
+    let a : s.answer ≡ Err e = i.answer ∙ ap (λ (c : Coming). answer_of c.entries c.end) h in
     let r = steps_answer rest [] [] e (i.rest ∙ ap (λ (c : Coming). next_of c.entries c.left c.end) h) in
-    ap (λ (y : Answer). y ∷ answered) a ∙ ap (λ (l : List Answer). answer.End e ∷ l) r
+    ap (λ (y : Answer). y ∷ answered) a ∙ ap (λ (l : List Answer). Err e ∷ l) r
 steps_answer (step {answered = answered} s i rest) (x ∷ es) left e h =
-    let a : s.answer ≡ answer.Entry x = i.answer ∙ ap (λ (c : Coming). answer_of c.entries c.end) h in
+    let a : s.answer ≡ Ok x = i.answer ∙ ap (λ (c : Coming). answer_of c.entries c.end) h in
     let r = steps_answer rest es left e (i.rest ∙ ap (λ (c : Coming). next_of c.entries c.left c.end) h) in
-    ap (λ (y : Answer). y ∷ answered) a ∙ ap (λ (l : List Answer). answer.Entry x ∷ l) r
+    ap (λ (y : Answer). y ∷ answered) a ∙ ap (λ (l : List Answer). Ok x ∷ l) r
 
 steps_bank : {p : Planner} {b : Bank} {answered : List Answer} {p' : Planner} {b' : Bank} → Steps p b answered p' b' → (es left : List Entry) (e : End) → coming p ≡ to_come es left e → b' ≡ bank_to (length answered) es left b
 unfolding bank_to

@@ -5,4 +5,4 @@ mod giving;
 mod host;
 
 pub use giving::{Gave, Places, give, no_places};
-pub use host::end_into;
+pub use host::end_numbers;

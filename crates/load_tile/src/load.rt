@@ -25,7 +25,7 @@ fn span(low: u16, high: u16) -> u64
     u64::from(high.saturating_sub(low))
 }
 
-// The words of a row that has so many columns after its first. By cases, as a division by a number that is not constant would stand in every load.
+// The words of a row that has so many columns after its first. siz stays a number, as in an object's byte and an entry's word: an enum would be made and taken apart in every function, and the definitions count in 2^siz. By cases, as a division by a number that is not constant would stand in every load.
 pub fn words_in(siz: u64, columns: u64) -> u64
     requires { siz ≤ 3 }
     ensures { result ≡ words_in siz columns }

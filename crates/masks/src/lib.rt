@@ -5,6 +5,8 @@ ghost use Rattle.std.specs.Prelude.{◌≡◌, ◌%◌, ◌^◌};
 ghost use Rattle.signed.specs.Floor.{floor_div, modulo};
 ghost use Rattle.signed.specs.Cast.{clear_low};
 
+// Each mask stands as in the Rust, and as the customer names it: a const parameter would put (1 << BITS) - 1 in its place.
+
 // Masks that keep low bits are remainders.
 
 pub fn low5(x: u64) -> u64

@@ -1,5 +1,6 @@
 // The conversions between the measures, and between a measure and whole texels, rows and lines: no other file multiplies, divides or shifts from one to another.
 // Widths, heights and image positions are never negative: a number below 0 counts as 0.
+// The customer names three tuple structs and conversions by name: a trait over two of them would be longer than the pairs that it joins.
 ghost use Rattle.std.specs.Prelude.{◌≡◌, ◌≤◌, ◌<◌, ◌^◌, ◌/◌, pos};
 ghost use Rattle.measures.specs.Measure.{quarters, thirty_seconds, texels, whole_texels, whole_rows, edge, lines_at, of_position, of_lines, whole, in_quarters, in_thirty_seconds, in_scale, extent, width_in_image, width_sampled, width_shown, texels_wide, words_wide, rows_high, row_part};
 ghost use Rattle.measures.specs.Range.{Below, Within};

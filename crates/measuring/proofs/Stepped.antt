@@ -1,8 +1,8 @@
 -- One step of the planner, and what of its plan is then still to be measured.
 -- Assumes nothing.
+use Rattle.std.specs.Prelude.{Err}
 use Rattle.std.proofs.Common.{◌≡◌, sym, ap, subst, ◌∙◌, List, [], drop}
 use Rattle.plan.specs.declared.types.Entry.{Entry}
-use Rattle.plan.specs.declared.types.Answer.TheVariants as answer
 use Rattle.plan.specs.declared.types.End.{End}
 use Rattle.plan.specs.Steps.{Coming}
 use Rattle.plan.specs.Demand.{aheads}
@@ -52,6 +52,6 @@ module _ (p : Planner) (s : Step) (i : StepGives p s) where
     entry_over e g t h j = entry_is e g taken.Over (subst (TakenIs r place e) j h)
 
     -- no entry is to come
-    pub end_over : (g : Given) → s.given ≡ g → (x : End) → answer_in g ≡ answer.End x → drifts_from r place (coming p).entries ≡ []
+    pub end_over : (g : Given) → s.given ≡ g → (x : End) → answer_in g ≡ Err x → drifts_from r place (coming p).entries ≡ []
     unfolding aheads
     end_over g k x a = ap (λ (es : List Entry). drifts_from r place es) (gave_end p s i g k x a).0

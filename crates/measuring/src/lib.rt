@@ -27,7 +27,7 @@ const REQUEST: usize = 7;
 
 const TOLD: usize = 2;
 
-// A step of the planner: a rectangle that is measured, an entry that is passed over, or none to come.
+// A step of the planner: a rectangle that is measured, an entry that is passed over, or none to come. Three outcomes, as of `Taken`.
 #[derive(Clone, Copy)]
 pub(crate) enum Moved {
     Measured(Begun, Place, Planner),

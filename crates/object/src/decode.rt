@@ -9,6 +9,8 @@ use crate::reader::field_from;
 use crate::types::ObjBg;
 use measures::{Scale, ThirtySeconds};
 
+// One function for the three widths would need a trait from the width to its type.
+
 fn byte(s: &[u8], at: usize) -> u8
     requires { at + 1 ≤ length s.now }
     ensures { result ≡ read s.now at 1 }

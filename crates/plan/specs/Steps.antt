@@ -1,7 +1,7 @@
 -- What is claimed of steps: n steps from a fresh planner answer the plan's first n entries and then its end for ever, and the bank is the fold over the entries given. D is docs/SPECIFICATION.md.
 -- `Gives` is what a planner's definition has to show, once for each step; `steps_give` is the claim from it, for any planner.
 -- Assumes nothing.
-use Rattle.std.specs.Prelude.{◌≡◌}
+use Rattle.std.specs.Prelude.{◌≡◌, Result, Ok, Err}
 use Rattle.std.proofs.Math.Path.{refl, ap}
 use Rattle.std.proofs.Common.{◌∙◌}
 use mathlib.Core.List.{List, [], ◌∷◌}
@@ -9,12 +9,14 @@ use Prim.Native.Nat.{ℕ, zero, suc}
 use Rattle.plan.specs.Request.{Request}
 use Rattle.plan.specs.declared.types.Entry.{Entry}
 use Rattle.plan.specs.Out.{Plan}
-use Rattle.plan.specs.declared.types.Answer.{Answer}
-use Rattle.plan.specs.declared.types.Answer.TheVariants as answer
 use Rattle.tile.specs.declared.bank.Bank.{Bank}
 use Rattle.plan.specs.Whole.{plan_of}
 use Rattle.plan.specs.declared.types.End.{End}
 use Rattle.plan.specs.Run.{Ran, end_of, bank_after, bank_step, run_of}
+
+-- what a step answers: an entry, or the end
+abbrev pub Answer : Type 0
+Answer = Result Entry End
 
 pub record Stepped (P : Type 0) : Type 0 where
   pub planner : P
@@ -34,8 +36,8 @@ bank_steps step_of (suc n) p b = bank_steps step_of n (step_of p b).planner (ste
 -- the first n of: the entries, then the end for ever
 unfoldable pub answers : ℕ → List Entry → End → List Answer
 answers zero es e = []
-answers (suc n) [] e = answer.End e ∷ answers n [] e
-answers (suc n) (x ∷ es) e = answer.Entry x ∷ answers n es e
+answers (suc n) [] e = Err e ∷ answers n [] e
+answers (suc n) (x ∷ es) e = Ok x ∷ answers n es e
 
 -- the bank after n of them; what a refused call has set is set by the first step that answers the end, and by no later one
 unfoldable pub bank_to : ℕ → List Entry → List Entry → Bank → Bank
@@ -67,8 +69,8 @@ next_of [] left e = record { entries = []; left = []; end = e }
 next_of (x ∷ es) left e = record { entries = es; left = left; end = e }
 
 abbrev pub answer_of : List Entry → End → Answer
-answer_of [] e = answer.End e
-answer_of (x ∷ es) e = answer.Entry x
+answer_of [] e = Err e
+answer_of (x ∷ es) e = Ok x
 
 abbrev pub bank_next : List Entry → List Entry → Bank → Bank
 bank_next [] left b = bank_after b left
@@ -85,11 +87,11 @@ module _ {P : Type 0} (step_of : P → Bank → Stepped P) (coming : P → Comin
   unfolding answers_of answers
   answered_from zero p b es left e h = refl
   answered_from (suc n) p b [] left e h =
-      let a : (step_of p b).answer ≡ answer.End e = law.answer p b ∙ ap (λ (c : Coming). answer_of c.entries c.end) h in
+      let a : (step_of p b).answer ≡ Err e = law.answer p b ∙ ap (λ (c : Coming). answer_of c.entries c.end) h in
       let r = answered_from n (step_of p b).planner (step_of p b).bank [] [] e (law.rest p b ∙ ap (λ (c : Coming). next_of c.entries c.left c.end) h) in
       rw (a, r)
   answered_from (suc n) p b (x ∷ es) left e h =
-      let a : (step_of p b).answer ≡ answer.Entry x = law.answer p b ∙ ap (λ (c : Coming). answer_of c.entries c.end) h in
+      let a : (step_of p b).answer ≡ Ok x = law.answer p b ∙ ap (λ (c : Coming). answer_of c.entries c.end) h in
       let r = answered_from n (step_of p b).planner (step_of p b).bank es left e (law.rest p b ∙ ap (λ (c : Coming). next_of c.entries c.left c.end) h) in
       rw (a, r)
 

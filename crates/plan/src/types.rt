@@ -65,12 +65,10 @@ pub struct End {
     pub words: u64,
 }
 
-// What one step of a planner answers.
-#[derive(Clone, Copy)]
-pub enum Answer {
-    Entry(Entry),
-    End(End),
-}
+// What one step of a planner answers: an entry, or the end.
+pub type Answer = Result<Entry, End>;
+
+// The facts on these numbers (`SoundCopy`, `SoundScaled`) stand in clauses and not in the types: the definitions make such records of any request, so that a model's value would be each record once more.
 
 // What no strip of a copy plan changes; widths, heights, columns and rows count cells of 4 quarters.
 #[derive(Clone, Copy)]

@@ -8,7 +8,6 @@ use Rattle.object.specs.declared.types.Verdict.{Verdict}
 use Rattle.object.specs.declared.types.Verdict.TheVariants as verdict
 use Rattle.tile.specs.declared.bank.Bank.{Bank}
 use Rattle.plan.specs.declared.types.Entry.{Entry}
-use Rattle.plan.specs.declared.types.Answer.TheVariants as answer
 use Rattle.plan.specs.declared.types.End.{End}
 use Rattle.plan.specs.Out.{Plan}
 use Rattle.plan.specs.Next.{cons, ended}
@@ -39,7 +38,7 @@ use Rattle.planner.specs.declared.types.Step.{Step}
 use Rattle.planner.specs.Coming.{coming_course, coming_from, coming, counts_next, answer_in, left_in, GivenIn, left_next, StepGives, StepIs, give_of, stop_of, refuse_of, course_of}
 
 -- what is to come of a planner whose plan starts with e
-given_answer : (p : Plan) (n : Counts) (e : Entry) (q : Plan) → p ≡ cons e q → answer_of (coming_from p n).entries (coming_from p n).end ≡ answer.Entry e
+given_answer : (p : Plan) (n : Counts) (e : Entry) (q : Plan) → p ≡ cons e q → answer_of (coming_from p n).entries (coming_from p n).end ≡ Ok e
 given_answer p n e q i = rw i
 
 -- an entry is given
@@ -74,7 +73,7 @@ module _ (w w' : Course) (n : Counts) (e : Entry) (i : coming_course w ≡ cons 
 
 -- the end
 module _ (w : Course) (n : Counts) (left : List Entry) (v : Verdict) (i : coming_course w ≡ ended left v) where
-  stopped_answer : answer.End (end_with n v) ≡ answer_of (coming_from (coming_course w) n).entries (coming_from (coming_course w) n).end
+  stopped_answer : Err (end_with n v) ≡ answer_of (coming_from (coming_course w) n).entries (coming_from (coming_course w) n).end
   unfolding counted_all
   stopped_answer = rw i
 
@@ -88,7 +87,7 @@ module _ (w : Course) (n : Counts) (left : List Entry) (v : Verdict) (i : coming
   stopped_counts : n ≡ counts_next (coming_from (coming_course w) n).entries n
   stopped_counts = rw i
 
-  step_ended : (g : Given) → answer_in g ≡ answer.End (end_with n v) → left_in g ≡ left → GivenIn g → Sound (planner_at w n) → StepGives (planner_at w n) (record { planner = planner_at (course.Over v) n; given = g })
+  step_ended : (g : Given) → answer_in g ≡ Err (end_with n v) → left_in g ≡ left → GivenIn g → Sound (planner_at w n) → StepGives (planner_at w n) (record { planner = planner_at (course.Over v) n; given = g })
   unfolding coming
   step_ended g a l t h =
       let f = h.few in
@@ -155,11 +154,11 @@ step_scaled s p n e r g h =
 
 -- ---- what a step gives says of what is to come
 
-pub came : (es : List Entry) (x : End) (e : Entry) → answer_of es x ≡ answer.Entry e → es ≡ e ∷ drop 1 es
+pub came : (es : List Entry) (x : End) (e : Entry) → answer_of es x ≡ Ok e → es ≡ e ∷ drop 1 es
 came [] x e i = let z : ◌≡◌ {A = ℕ} 0 1 = cc in absurd (omega arith)
 came (y ∷ es) x e i = let k : y ≡ e = cc in ap (λ (d : Entry). d ∷ es) k
 
-pub ended_there : (es : List Entry) (x e : End) → answer_of es x ≡ answer.End e → (es ≡ []) × (e ≡ x)
+pub ended_there : (es : List Entry) (x e : End) → answer_of es x ≡ Err e → (es ≡ []) × (e ≡ x)
 ended_there [] x e i = let k : x ≡ e = cc in (refl, sym k)
 ended_there (y ∷ es) x e i = let z : ◌≡◌ {A = ℕ} 0 1 = cc in absurd (omega arith)
 
@@ -179,13 +178,13 @@ module _ (p : Planner) (s : Step) (i : StepGives p s) where
       longer e es = refl
 
   -- the end: no entries, the end itself, and the sizes that are set
-  pub gave_end : (g : Given) → s.given ≡ g → (x : End) → answer_in g ≡ answer.End x → ((coming p).entries ≡ []) × ((x ≡ (coming p).end) × ((coming p).left ≡ left_in g))
+  pub gave_end : (g : Given) → s.given ≡ g → (x : End) → answer_in g ≡ Err x → ((coming p).entries ≡ []) × ((x ≡ (coming p).end) × ((coming p).left ≡ left_in g))
   gave_end g k x a =
       let t = ended_there (coming p).entries (coming p).end x (sym i.answer ∙ ap answer_in k ∙ a) in
       (t.0, (t.1, ap (λ (es : List Entry). left_next es (coming p).left) (sym t.0) ∙ sym i.left ∙ ap left_in k))
 
   -- a step with a bank
-  pub with_entry : (b : Bank) (e : Entry) → s.given ≡ given.Entry e → (b' : Bank) → b' ≡ bank_step b e → StepIs p b (record { planner = s.planner; bank = b'; answer = answer.Entry e })
+  pub with_entry : (b : Bank) (e : Entry) → s.given ≡ given.Entry e → (b' : Bank) → b' ≡ bank_step b e → StepIs p b (record { planner = s.planner; bank = b'; answer = Ok e })
   with_entry b e g b' k =
       record {
         answer = sym (ap answer_in g) ∙ i.answer;
@@ -195,7 +194,7 @@ module _ (p : Planner) (s : Step) (i : StepGives p s) where
         sound = i.sound;
       }
 
-  pub with_end : (b : Bank) (g : Given) → s.given ≡ g → (x : End) → answer_in g ≡ answer.End x → (b' : Bank) → b' ≡ bank_after b (left_in g) → StepIs p b (record { planner = s.planner; bank = b'; answer = answer.End x })
+  pub with_end : (b : Bank) (g : Given) → s.given ≡ g → (x : End) → answer_in g ≡ Err x → (b' : Bank) → b' ≡ bank_after b (left_in g) → StepIs p b (record { planner = s.planner; bank = b'; answer = Err x })
   with_end b g k x a b' j =
       let t = gave_end g k x a in
       record {

@@ -7,8 +7,7 @@ use Rattle.object.specs.declared.types.Verdict.{Verdict}
 use Rattle.object.specs.declared.types.Verdict.TheVariants as verdict
 use Rattle.tile.specs.declared.bank.Bank.{Bank}
 use Rattle.plan.specs.declared.types.Entry.{Entry}
-use Rattle.plan.specs.declared.types.Answer.{Answer}
-use Rattle.plan.specs.declared.types.Answer.TheVariants as answer
+use Rattle.plan.specs.Steps.{Answer}
 use Rattle.plan.specs.Request.{Request}
 use Rattle.plan.specs.Out.{Plan, plan_out}
 use Rattle.plan.specs.Next.{ended}
@@ -49,9 +48,9 @@ counts_next (e ∷ es) n = counted_of n e
 
 -- what a step gives is an answer, and the sizes that a refused load has set
 abbrev pub answer_in : Given → Answer
-answer_in (given.Entry e) = answer.Entry e
-answer_in (given.Refused s x) = answer.End x
-answer_in (given.End x) = answer.End x
+answer_in (given.Entry e) = Ok e
+answer_in (given.Refused s x) = Err x
+answer_in (given.End x) = Err x
 
 abbrev pub left_in : Given → List Entry
 left_in (given.Entry e) = []

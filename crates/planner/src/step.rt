@@ -9,7 +9,7 @@ use crate::types::{Course, Given, Planner, Step, Stepped};
 use copy::CopyEnd;
 use loads::Refused;
 use object::Verdict;
-use plan::{Answer, Entry};
+use plan::Entry;
 use tile::Bank;
 use words::Counts;
 
@@ -100,7 +100,7 @@ impl Planner {
                 Stepped {
                     planner,
                     bank: after,
-                    answer: Answer::Entry(entry),
+                    answer: Ok(entry),
                 }
             }
             Given::Refused(size, end) => {
@@ -108,13 +108,13 @@ impl Planner {
                 Stepped {
                     planner,
                     bank: sized,
-                    answer: Answer::End(end),
+                    answer: Err(end),
                 }
             }
             Given::End(end) => Stepped {
                 planner,
                 bank,
-                answer: Answer::End(end),
+                answer: Err(end),
             },
         }
     }

@@ -5,7 +5,7 @@ use tile::Bank;
 use std::marker::Model;
 use words::Counts;
 
-// Where a plan stands: in a copy plan, in a scaled plan, or at its end.
+// Where a plan stands: in a copy plan, in a scaled plan, or at its end. Data, and no closure: a host keeps it as words, and there is no heap.
 #[derive(Clone, Copy)]
 pub enum Course {
     Copy(copy::Stage, copy::Place),
@@ -33,6 +33,7 @@ impl Model for Planner {
 }
 
 // What a step gives: an entry, or the end. A load that is refused has set its tile's size, which is no entry, before the end.
+// Three outcomes: a Result's error would be an end with a size or without, and every reader would take it apart again.
 #[derive(Clone, Copy)]
 pub enum Given {
     Entry(Entry),

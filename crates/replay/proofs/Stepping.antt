@@ -2,7 +2,7 @@
 -- Assumes nothing.
 use mathlib.Core.Path.{◌≡◌, refl, sym, ap, subst, ◌∙◌}
 use mathlib.Core.List.{List, [], ◌∷◌, ◌++◌, append_assoc, append-nil}
-use Rattle.std.specs.Prelude.{Option, Some, None}
+use Rattle.std.specs.Prelude.{Option, Some, None, Ok}
 use Prim.Native.Nat.{ℕ, zero, suc, ◌+◌, ◌-◌, ◌*◌, ◌/◌, ◌<◌, ◌≤◌}
 use native.Mathlib.Numerals.{add-one}
 use native.Mathlib.Omega.{arith}
@@ -14,8 +14,7 @@ use Rattle.tile.specs.declared.bank.Bank.{Bank}
 use Rattle.plan.specs.declared.types.Entry.{Entry}
 use Rattle.plan.specs.declared.types.Entry.TheVariants as entry
 use Rattle.plan.specs.declared.types.End.{End}
-use Rattle.plan.specs.declared.types.Answer.{Answer}
-use Rattle.plan.specs.declared.types.Answer.TheVariants as answer
+use Rattle.plan.specs.Steps.{Answer}
 use Rattle.plan.specs.Out.{Plan}
 use Rattle.plan.specs.Run.{entry_words, plan_words, bank_step, bank_after, end_of, cut_at}
 use Rattle.plan.specs.Sound.{Narrow}
@@ -128,7 +127,7 @@ narrow_more [] x h n = (n, tt)
 narrow_more (e ∷ es) x h n = (h.0, narrow_more es x h.1 n)
 
 -- the entry that is given is narrow
-given_narrow : (g : Given) (x : Entry) → answer_in g ≡ answer.Entry x → GivenIn g → Narrow x
+given_narrow : (g : Given) (x : Entry) → answer_in g ≡ Ok x → GivenIn g → Narrow x
 given_narrow (given.Entry e) x i h = let k : e ≡ x = cc in subst Narrow k h.narrow
 given_narrow (given.Refused s y) x i h = let z : ◌≡◌ {A = ℕ} 0 1 = cc in absurd (omega arith)
 given_narrow (given.End y) x i h = let z : ◌≡◌ {A = ℕ} 0 1 = cc in absurd (omega arith)

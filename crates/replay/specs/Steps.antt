@@ -1,10 +1,9 @@
 -- What steps with a bank answer: digests of the answers, to the end and three steps beyond it, and of the bank after them; and all that is replayed of a record.
 -- Assumes nothing.
-use Rattle.std.specs.Prelude.{cond, Option, Some, None, List, [], ◌∷◌, ◌++◌, ℕ, ◌+◌, ◌/◌, ltb, length}
+use Rattle.std.specs.Prelude.{cond, Option, Some, None, List, [], ◌∷◌, ◌++◌, ℕ, ◌+◌, ◌/◌, ltb, length, Ok, Err}
 use Rattle.tile.specs.declared.bank.Bank.{Bank}
 use Rattle.plan.specs.declared.types.Entry.{Entry}
-use Rattle.plan.specs.declared.types.Answer.{Answer}
-use Rattle.plan.specs.declared.types.Answer.TheVariants as answer
+use Rattle.plan.specs.Steps.{Answer}
 use Rattle.plan.specs.Out.{Plan}
 use Rattle.plan.specs.Run.{entry_words, end_of}
 use Rattle.plan.specs.Steps.{Coming, coming_of, answers, bank_to}
@@ -16,8 +15,8 @@ use Rattle.replay.specs.Outcome.{outcome_of}
 
 -- an entry's eleven words, and an end's four numbers
 unfoldable pub answer_words : Answer → List ℕ
-answer_words (answer.Entry e) = entry_words e
-answer_words (answer.End e) = end_numbers e
+answer_words (Ok e) = entry_words e
+answer_words (Err e) = end_numbers e
 
 unfoldable pub answers_words : List Answer → List ℕ
 answers_words [] = []
@@ -25,8 +24,8 @@ answers_words (a ∷ rest) = answer_words a ++ answers_words rest
 
 -- whether an answer is an end
 unfoldable pub ends_in : Answer → ℕ
-ends_in (answer.Entry e) = 0
-ends_in (answer.End e) = 1
+ends_in (Ok e) = 0
+ends_in (Err e) = 1
 
 -- the steps that answer these entries, the end, and the end three times more
 abbrev pub beyond : List Entry → ℕ

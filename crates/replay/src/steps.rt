@@ -25,11 +25,11 @@ fn answer_into(hash: u64, a: Answer) -> u64
     ensures { result ≡ digest_from hash (answer_words a) }
 {
     match a {
-        Answer::Entry(entry) => {
+        Ok(entry) => {
             let words = words::entry_words(entry);
             digest_from(hash, &words)
         }
-        Answer::End(end) => {
+        Err(end) => {
             let verdict = end.verdict;
             let numbers = [
                 checks::number(verdict),
@@ -55,7 +55,7 @@ fn steps_from(start: Planner, bank: Bank, before: u64) -> Digests
         let s = p.step_with(b);
         let answer = s.answer;
         answers = answer_into(answers, answer);
-        if let Answer::End(_) = answer {
+        if answer.is_err() {
             ends += 1;
         }
         p = s.planner;

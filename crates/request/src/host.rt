@@ -25,7 +25,7 @@ fn mode(n: u64) -> u32
     (n % 0x1_0000_0000) as u32
 }
 
-// Numbers that this cuts are refused either way, so the plan is that of the words as they stand.
+// Numbers that this cuts are refused either way, so the plan is that of the words as they stand. Named by its source, as `from_be_bytes` is: a case's bytes make a request too.
 pub fn from_words(words: &[u64; 7]) -> Request
     ensures { KeptIs words.now result }
 {

@@ -35,7 +35,7 @@ pub struct Begun {
     pub distance: i64,
 }
 
-// What an entry is: a rectangle that is measured, no rectangle, or one after the last strip.
+// What an entry is: a rectangle that is measured, no rectangle, or one after the last strip. Three outcomes, which an Option in a Result would hide.
 #[derive(Clone, Copy)]
 pub enum Taken {
     Is(Begun, Place),

@@ -1,6 +1,6 @@
 -- A whole run: what it has written so far and what is still to come, until the end or a full buffer. D is docs/SPECIFICATION.md.
 -- Assumes nothing.
-use Rattle.std.specs.Prelude.{◌≡◌, Bool, true, false, cond}
+use Rattle.std.specs.Prelude.{◌≡◌, Bool, true, false, cond, Err}
 use Rattle.std.proofs.Math.Path.{refl, sym, ap}
 use Rattle.std.proofs.Common.{subst, ◌∙◌, arith, drop_at, take_all, drop-drop, lt-ltb, le-ltb}
 use mathlib.Core.List.{List, [], ◌∷◌, ◌++◌, append_assoc, append-nil}
@@ -14,7 +14,6 @@ use Rattle.object.specs.declared.types.Verdict.TheVariants as verdict
 use Rattle.tile.specs.declared.bank.Bank.{Bank}
 use Rattle.plan.specs.declared.types.Entry.{Entry}
 use Rattle.plan.specs.declared.types.End.{End}
-use Rattle.plan.specs.declared.types.Answer.TheVariants as answer
 use Rattle.plan.specs.Out.{Plan}
 use Rattle.plan.specs.Whole.{plan_of}
 use Rattle.plan.specs.Run.{entry_words, plan_words, end_of, cut_at, run_of}
@@ -248,7 +247,7 @@ module _ (plan : Plan) (buf ws out : List ℕ) (p : Planner) (n : Counts) (at : 
 
 -- the steps are over where no entry comes next, or where there is no room; then the bank is settled
 module _ (k : Coming) (buf ws out ws' : List ℕ) (p : Planner) (n : Counts) (at : ℕ) (ps : Places) (s : Step) (i : StepGives p s) where
-  pub steps_end : (kept : Bool) → Going kept k buf out p n at ps → (d : Given) → s.given ≡ d → (x : End) → answer_in d ≡ answer.End x → ws' ≡ cond kept (settled_of ws out ps) ws → (ws'' : List ℕ) → ws'' ≡ words_after ws' (left_in d) → (r : End) → r ≡ end_with n x.verdict
+  pub steps_end : (kept : Bool) → Going kept k buf out p n at ps → (d : Given) → s.given ≡ d → (x : End) → answer_in d ≡ Err x → ws' ≡ cond kept (settled_of ws out ps) ws → (ws'' : List ℕ) → ws'' ≡ words_after ws' (left_in d) → (r : End) → r ≡ end_with n x.verdict
       → StepsTo kept k buf ws out ws'' r
   steps_end kept g d j x a b ws'' b' r e = by kept g b
     where

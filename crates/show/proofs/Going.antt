@@ -1,5 +1,6 @@
 -- The text so far: lines in front of what one call on the rest would write.
 -- Assumes nothing.
+use Rattle.std.specs.Prelude.{Err}
 use mathlib.Core.Path.{◌≡◌, refl, sym, ap, ◌∙◌}
 use mathlib.Core.Bool.{true, false}
 use mathlib.Core.List.{List, [], ◌∷◌, ◌++◌, append_assoc, append-nil}
@@ -9,7 +10,6 @@ use lib.ListN.{length, drop, length-append}
 use borrow.Author.Tests.{lt-ltb, le-ltb}
 use Rattle.plan.specs.declared.types.Entry.{Entry}
 use Rattle.plan.specs.declared.types.End.{End}
-use Rattle.plan.specs.declared.types.Answer.TheVariants as answer
 use Rattle.plan.specs.Steps.{Coming, next_of}
 use Rattle.planner.specs.declared.types.Planner.{Planner}
 use Rattle.planner.specs.declared.types.Given.{Given}
@@ -119,7 +119,7 @@ module _ (k : Coming) (out₀ out : List ℕ) (p : Planner) (at : ℕ) (g : Goin
           sound = i.sound;
         }
 
-    pub going_end : (w : Given) → s.given ≡ w → (e : End) → answer_in w ≡ answer.End e → (out' : List ℕ) (at' : ℕ) → PutIs out at (end_text e) out' at' → ChunkIs k out₀ out' (record { planner = s.planner; count = at'; done = true })
+    pub going_end : (w : Given) → s.given ≡ w → (e : End) → answer_in w ≡ Err e → (out' : List ℕ) (at' : ℕ) → PutIs out at (end_text e) out' at' → ChunkIs k out₀ out' (record { planner = s.planner; count = at'; done = true })
     going_end w a e b out' at' q =
         let c = coming p in
         let h = gave_end p s i w a e b in

@@ -9,6 +9,7 @@ use planner::{Given, Planner};
 const LINE: usize = 128;
 
 // What one call leaves: the planner with the rest to come, how many bytes are written, and whether the end's line is among them.
+// The planner stands after the end too, with the same end to come, so the flag is no Option's.
 #[derive(Clone, Copy)]
 pub struct Chunk {
     pub planner: Planner,

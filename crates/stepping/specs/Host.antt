@@ -1,9 +1,8 @@
 -- What the stepping functions leave to the host: words that have something to come, and one step of it. D is docs/SPECIFICATION.md, section 10.
 -- Assumes nothing.
-use Rattle.std.specs.Prelude.{◌≡◌, Bool, true, false, ◌&&◌, List, [], ◌∷◌, ℕ, eqb, length, Option, Some, None}
+use Rattle.std.specs.Prelude.{◌≡◌, Bool, true, false, ◌&&◌, List, [], ◌∷◌, ℕ, eqb, length, Option, Some, None, Ok, Err}
 use Rattle.plan.specs.declared.types.Entry.{Entry}
-use Rattle.plan.specs.declared.types.Answer.{Answer}
-use Rattle.plan.specs.declared.types.Answer.TheVariants as answer
+use Rattle.plan.specs.Steps.{Answer}
 use Rattle.plan.specs.Whole.{plan_of}
 use Rattle.plan.specs.Run.{entry_words, end_words}
 use Rattle.plan.specs.Steps.{Coming, coming_of, next_of, answer_of}
@@ -19,8 +18,8 @@ use Rattle.stored.specs.Stored.{stored_of, WordsOf, LoadedIs}
 
 -- a step's answer as eleven words
 abbrev pub answer_words : Answer → List ℕ
-answer_words (answer.Entry e) = entry_words e
-answer_words (answer.End x) = end_words x
+answer_words (Ok e) = entry_words e
+answer_words (Err x) = end_words x
 
 -- what sets the bank at a step: the entry, or the size that a refused load has set
 abbrev pub sets_in : Given → List Entry

@@ -15,7 +15,6 @@ ghost use Rattle.stored.specs.Stored.{StoredIs};
 ghost use Rattle.stepping.specs.Host.{answer_words, sets_in, Moved, StepIs, StartIs};
 
 use planner::{Given, Planner};
-use words::put;
 
 const REQUEST: usize = 7;
 
@@ -25,24 +24,6 @@ const BANK: usize = 136;
 
 const ENTRY: usize = 11;
 
-// The state's words as a value.
-fn taken(state: &[u64]) -> [u64; 39]
-    requires { length state.now ≡ 39 }
-    ensures { result ≡ state.now }
-{
-    let mut words = [0u64; 39];
-    put(&mut words, 0, state);
-    words
-}
-
-fn keep(state: &mut [u64], p: Planner)
-    requires { length state.old ≡ 39 }
-    ensures { StoredIs p state.new }
-{
-    let words = stored::stored(p);
-    put(&mut *state, 0, &words);
-}
-
 fn out_words(given: Given) -> [u64; 11]
     ensures { result ≡ answer_words (answer_in given) }
 {
@@ -51,14 +32,6 @@ fn out_words(given: Given) -> [u64; 11]
         Given::Refused(_, end) => words::end_words(end),
         Given::End(end) => words::end_words(end),
     }
-}
-
-fn answer(out: &mut [u64], given: Given)
-    requires { length out.old ≡ 11 }
-    ensures { out.new ≡ answer_words (answer_in given) }
-{
-    let words = out_words(given);
-    put(&mut *out, 0, &words);
 }
 
 // A load that is refused has set its tile's size.
@@ -80,25 +53,25 @@ fn moved(p: Planner, state: &mut [u64], bank: &mut [u64], out: &mut [u64])
 {
     let s = p.step();
     let given = s.given;
-    keep(&mut *state, s.planner);
+    state.copy_from_slice(&stored::stored(s.planner));
     set_bank(&mut *bank, given);
-    answer(&mut *out, given);
+    out.copy_from_slice(&out_words(given));
 }
 
 // One step: the answer goes to `out`, `bank` has what it sets, and `state` has the rest to come. After the end the same end, and nothing else changes.
 pub fn visor_step(state: &mut [u64], bank: &mut [u64], out: &mut [u64]) -> u64
     ensures { StepIs state.old bank.old out.old result state.new bank.new out.new }
 {
-    if state.len() != STATE {
+    let Ok(words) = <[u64; STATE]>::try_from(&*state) else {
         return 1;
-    }
+    };
     if bank.len() != BANK {
         return 1;
     }
     if out.len() != ENTRY {
         return 1;
     }
-    match stored::load(taken(state)) {
+    match stored::load(words) {
         Some(p) => {
             moved(p, &mut *state, &mut *bank, &mut *out);
             0
@@ -119,6 +92,6 @@ pub fn visor_start(object: &[u8], request: &[u64], state: &mut [u64]) -> u64
     }
     let q = request::from_words(request);
     let p = starts::fresh(object, q);
-    keep(&mut *state, p);
+    state.copy_from_slice(&stored::stored(p));
     0
 }

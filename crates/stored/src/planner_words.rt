@@ -34,6 +34,7 @@ pub fn stored(p: Planner) -> [u64; 39]
     }
 }
 
+// Total, as the words are tested before and again after: the error of a TryFrom would be one that no caller can meet.
 fn verdict_from(k: u64) -> Verdict
     ensures { result ≡ verdict_from k }
 {
@@ -132,9 +133,5 @@ pub fn load(words: [u64; 39]) -> Option<Planner>
         return None;
     }
     let p = planner_from(&words);
-    if words == stored(p) {
-        Some(p)
-    } else {
-        None
-    }
+    if words == stored(p) { Some(p) } else { None }
 }

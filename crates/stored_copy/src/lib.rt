@@ -82,6 +82,7 @@ pub fn copy_words(stage: Stage, p: Place, n: Counts) -> [u64; 39]
     ]
 }
 
+// Total, as `stored` says of verdicts.
 pub fn stage_from(k: u64) -> Stage
     ensures { result ≡ stage_from k }
 {

@@ -14,6 +14,8 @@ ghost use Rattle.visorlongan.specs.Host.{left, host_run, counted, host_count, ho
 ghost use Rattle.applying.specs.Applied.{applied};
 ghost use Rattle.version.specs.Version.{version_of};
 
+use applying::NoEntry;
+
 const REQUEST: usize = 7;
 
 const BANK: usize = 136;
@@ -43,7 +45,7 @@ pub fn visor_run(
     }
     let q = request::from_words(request);
     let ended = runs::run(object, q, &mut *bank, &mut *plan);
-    giving::end_into(&mut *end, ended);
+    end.copy_from_slice(&giving::end_numbers(ended));
     0
 }
 
@@ -59,7 +61,7 @@ pub fn visor_count(object: &[u8], request: &[u64], end: &mut [u64]) -> u64
     }
     let q = request::from_words(request);
     let ended = runs::count(object, q);
-    giving::end_into(&mut *end, ended);
+    end.copy_from_slice(&giving::end_numbers(ended));
     0
 }
 
@@ -67,13 +69,16 @@ pub fn visor_count(object: &[u8], request: &[u64], end: &mut [u64]) -> u64
 pub fn visor_apply(entry: &[u64], bank: &mut [u64]) -> u64
     ensures { applied result bank.new ≡ host_apply entry.now bank.old }
 {
-    if entry.len() != ENTRY {
+    let Ok(entry) = <&[u64; ENTRY]>::try_from(entry) else {
         return 1;
-    }
+    };
     if bank.len() != BANK {
         return 1;
     }
-    applying::apply(&mut *bank, entry)
+    match applying::apply(&mut *bank, entry) {
+        Ok(()) => 0,
+        Err(NoEntry) => 1,
+    }
 }
 
 // The library's version, by which a host sees that its header and its archive belong together.

@@ -1,5 +1,5 @@
 -- The count is the end of the whole plan; two lengths are tested first.
-use Rattle.std.proofs.Common.{◌≡◌, subst, List, ℕ}
+use Rattle.std.proofs.Common.{◌≡◌, ◌∙◌, subst, List, ℕ}
 use Rattle.plan.specs.Whole.{plan_of}
 use Rattle.request.specs.Host.{with_bytes, host_request}
 use Rattle.visorlongan.proofs.Left.{odd_request_there, odd_end_there, counts}
@@ -23,4 +23,4 @@ returns c =
     w.long
     c.if-end-ne-END.false
     c.count-ended.ensures
-    c.end_into.ensures
+    (c.copy_from_slice.ensures.after ∙ c.end_numbers.ensures)

@@ -1,5 +1,5 @@
 -- The parts keep their promises, one after another; three lengths are tested first.
-use Rattle.std.proofs.Common.{◌≡◌, subst, List, ℕ}
+use Rattle.std.proofs.Common.{◌≡◌, ◌∙◌, subst, List, ℕ}
 use Rattle.plan.specs.Whole.{plan_of}
 use Rattle.request.specs.Host.{with_bytes, host_request}
 use Rattle.visorlongan.proofs.Left.{odd_request, odd_bank, odd_end, ran}
@@ -29,4 +29,4 @@ returns c =
     c.if-bank-ne-BANK.false
     c.if-end-ne-END.false
     c.run-ended.ensures
-    c.end_into.ensures
+    (c.copy_from_slice.ensures.after ∙ c.end_numbers.ensures)
