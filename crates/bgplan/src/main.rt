@@ -4,7 +4,7 @@
 
 ghost use Rattle.std.specs.Prelude.{◌≡◌, ◌≤◌, IfOk, OnOk, IfSome, length, take};
 ghost use Rattle.std.specs.Io.KnownBytes.{Appends};
-ghost use Rattle.planner.specs.Coming.{Sound, coming};
+ghost use Rattle.planner.specs.Coming.{coming};
 ghost use Rattle.show.specs.Joined.{coming_text};
 ghost use Rattle.bgplan.specs.Answer.{AnswerIs};
 
@@ -34,7 +34,6 @@ fn read<R: Read>(input: &mut R, bytes: &mut [u8]) -> io::Result<usize>
 
 // The text of all that a planner has to come, in large pieces. The one place where it goes out; after a write that fails nothing more does.
 fn print<W: Write>(output: &mut W, start: Planner) -> io::Result<()>
-    requires { Sound start }
     ensures { OnOk result (Appends (W.contents output.old) (W.contents output.new) (coming_text (coming start))) }
 {
     let mut piece = [0u8; 262144];

@@ -11,9 +11,9 @@ use Rattle.words.specs.Counts.{counted_all}
 use Rattle.giving.specs.Host.{words_after}
 use Rattle.request.specs.Host.{host_request}
 use Rattle.planner.specs.declared.types.Course.TheVariants as course
-use Rattle.planner.specs.declared.types.Planner.{Planner}
+use Rattle.planner.specs.Planner.{Planner}
 use Rattle.planner.specs.Coming.{coming}
-use Rattle.planner.specs.Step.{planner_at}
+use Rattle.planner.specs.Planner.{planner_at}
 use Rattle.planner.proofs.StepLaws.{counts_at_end}
 use Rattle.stored.specs.Stored.{WordsOf, LoadedIs}
 use Rattle.stored.proofs.Laws.{one_planner, thirty_nine}

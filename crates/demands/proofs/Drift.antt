@@ -14,7 +14,7 @@ use Rattle.drift.specs.Prefix.{entries_in}
 use Rattle.drift.proofs.Prefix.{given_is, first_near}
 use Rattle.drift.specs.Words.{rects_from}
 use Rattle.drift.proofs.Words.{run_near}
-use Rattle.planner.specs.declared.types.Planner.{Planner}
+use Rattle.planner.specs.Planner.{Planner}
 use Rattle.giving.specs.Host.{end_numbers, run_words}
 use Rattle.giving.proofs.HostLaws.{run_end, run_buffer}
 use Rattle.planner.specs.Coming.{Fresh, request_of}

@@ -11,8 +11,9 @@ use Rattle.plan.specs.Steps.{Answer}
 use Rattle.plan.specs.Whole.{plan_of}
 use Rattle.plan.specs.Run.{end_of, bank_step, bank_after}
 use Rattle.plan.specs.Steps.{Coming, next_of, answer_of, bank_next, answers, bank_to}
-use Rattle.planner.specs.declared.types.Planner.{Planner}
-use Rattle.planner.specs.Coming.{coming, answer_in, Sound, Fresh, request_of}
+use Rattle.planner.specs.Planner.{Planner}
+use Rattle.planner.specs.Coming.{coming, answer_in, Fresh, request_of}
+use Rattle.planner.specs.Planner.{Sound}
 use Rattle.demands.specs.Steps.{Steps, StepsAlone, none, step}
 
 -- any such list is one of steps with a bank, whatever bank is taken along

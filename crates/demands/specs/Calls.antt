@@ -10,7 +10,7 @@ use Rattle.words.specs.declared.count.Counts.{Counts}
 use Rattle.words.specs.Counts.{end_with}
 use Rattle.giving.specs.Host.{words_after, words_step}
 use Rattle.planner.specs.declared.types.Course.TheVariants as course
-use Rattle.planner.specs.Step.{planner_at}
+use Rattle.planner.specs.Planner.{planner_at}
 use Rattle.stored.specs.Stored.{WordsOf}
 use Rattle.stepping.specs.Host.{answer_words, sets_next, Has, StepIs}
 

@@ -3,7 +3,7 @@
 use Rattle.std.specs.Prelude.{List, [], ◌∷◌}
 use Rattle.tile.specs.declared.bank.Bank.{Bank}
 use Rattle.plan.specs.Steps.{Answer}
-use Rattle.planner.specs.declared.types.Planner.{Planner}
+use Rattle.planner.specs.Planner.{Planner}
 use Rattle.planner.specs.declared.types.Step.{Step}
 use Rattle.planner.specs.declared.types.Stepped.{Stepped}
 use Rattle.planner.specs.Coming.{answer_in, StepGives, StepIs}

@@ -5,8 +5,9 @@ use Rattle.std.proofs.Math.Seq.{paste}
 use Rattle.std.proofs.lemmas.List.Edits.{length-paste}
 use Rattle.plan.specs.declared.types.Entry.{Entry}
 use Rattle.plan.specs.Demand as demand
-use Rattle.planner.specs.declared.types.Planner.{Planner}
-use Rattle.planner.specs.Coming.{Sound, coming}
+use Rattle.planner.specs.Planner.{Planner}
+use Rattle.planner.specs.Coming.{coming}
+use Rattle.planner.specs.Planner.{Sound}
 use Rattle.small.specs.Small.{AllSmall}
 use Rattle.ruler.specs.declared.types.Ruler.{Ruler}
 use Rattle.ruler.specs.declared.types.Place.{Place}
@@ -43,14 +44,13 @@ pub record Going (r : Ruler) (es : List Entry) (buf out : List ℕ) (p : Planner
   pub fits : 5 * length given ≤ length buf
   pub same : length out ≡ length buf
   pub buffer : out ≡ drift_words r.h given ++ drop (5 * length given) buf
-  pub sound : Sound p
   pub small : AllSmall (coming p).entries
   pub at : SoundPlace r place
 
-pub going_start : (r : Ruler) (p : Planner) (buf : List ℕ) (place : Place) → Sound p → AllSmall (coming p).entries → place ≡ place_of r → SoundPlace r place → Going r (coming p).entries buf buf p place 0
+pub going_start : (r : Ruler) (p : Planner) (buf : List ℕ) (place : Place) → AllSmall (coming p).entries → place ≡ place_of r → SoundPlace r place → Going r (coming p).entries buf buf p place 0
 unfolding drift_words
-going_start r p buf place s a e h =
-    record { given = []; whole = ap (λ (x : Place). drifts_from r x (coming p).entries) (sym e); count = refl; fits = omega arith; same = refl; buffer = refl; sound = s; small = a; at = h }
+going_start r p buf place a e h =
+    record { given = []; whole = ap (λ (x : Place). drifts_from r x (coming p).entries) (sym e); count = refl; fits = omega arith; same = refl; buffer = refl; small = a; at = h }
 
 module _ {r : Ruler} {es : List Entry} {buf out : List ℕ} {p : Planner} {place : Place} {n : ℕ} (g : Going r es buf out p place n) where
   pub going_more : (b : Begun) (s : Place) (q : Planner) (out' : List ℕ) → Next r place p b s q → 5 ≤ length out - n * 5 → out' ≡ paste out (n * 5) (begun_words r.h (begun_in b)) 5 → Going r es buf out' q s (n + 1)
@@ -74,7 +74,6 @@ module _ {r : Ruler} {es : List Entry} {buf out : List ℕ} {p : Planner} {place
             ∙ paste_more (drift_words r.h bs) ws buf (n * 5) refl (words_long r.h bs ∙ at)
             ∙ ap (λ (x : List ℕ). x ++ drop (n * 5 + 5) buf) (sym (words_more r.h bs (begun_in b)))
             ∙ ap (λ (k : ℕ). drift_words r.h (bs ++ begun_in b ∷ []) ++ drop k buf) d;
-        sound = h.rest.sound;
         small = h.rest.small;
         at = h.next;
       }

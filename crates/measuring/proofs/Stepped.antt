@@ -6,7 +6,7 @@ use Rattle.plan.specs.declared.types.Entry.{Entry}
 use Rattle.plan.specs.declared.types.End.{End}
 use Rattle.plan.specs.Steps.{Coming}
 use Rattle.plan.specs.Demand.{aheads}
-use Rattle.planner.specs.declared.types.Planner.{Planner}
+use Rattle.planner.specs.Planner.{Planner}
 use Rattle.planner.specs.declared.types.Given.{Given}
 use Rattle.planner.specs.declared.types.Given.TheVariants as given
 use Rattle.planner.specs.declared.types.Step.{Step}

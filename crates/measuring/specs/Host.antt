@@ -9,8 +9,9 @@ use Rattle.plan.specs.declared.types.Entry.{Entry}
 use Rattle.plan.specs.Request.{Request}
 use Rattle.plan.specs.Demand as demand
 use Rattle.plan.specs.Demand.{drift_of, behind_of, ahead_of, apt}
-use Rattle.planner.specs.declared.types.Planner.{Planner}
-use Rattle.planner.specs.Coming.{Sound, coming}
+use Rattle.planner.specs.Planner.{Planner}
+use Rattle.planner.specs.Coming.{coming}
+use Rattle.planner.specs.Planner.{Sound}
 use Rattle.request.specs.Host.{host_request}
 use Rattle.small.specs.Small.{AllSmall}
 use Rattle.ruler.specs.declared.types.Ruler.{Ruler}

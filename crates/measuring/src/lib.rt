@@ -11,7 +11,7 @@ ghost use Rattle.std.specs.Prelude.{◌≡◌, cond, [], ◌∷◌, ◌≤◌, l
 ghost use Rattle.std.specs.Int.{w64};
 ghost use Rattle.std.proofs.Common.{SFits};
 ghost use Rattle.measures.specs.Range.{Within};
-ghost use Rattle.planner.specs.Coming.{Sound, coming};
+ghost use Rattle.planner.specs.Coming.{coming};
 ghost use Rattle.request.specs.Host.{with_bytes};
 ghost use Rattle.small.specs.Small.{AllSmall};
 ghost use Rattle.ruler.specs.Drifts.{SoundRuler, SoundPlace, begun_in};
@@ -51,7 +51,7 @@ fn words_of(h: u64, b: Begun) -> [u64; 5]
 }
 
 fn step(r: Ruler, place: Place, p: Planner) -> Moved
-    requires { (SoundRuler r) × ((SoundPlace r place) × ((Sound p) × AllSmall (coming p).entries)) }
+    requires { (SoundRuler r) × ((SoundPlace r place) × AllSmall (coming p).entries) }
     ensures { MovedIs r place p result }
 {
     let s = p.step();
@@ -70,7 +70,7 @@ fn step(r: Ruler, place: Place, p: Planner) -> Moved
 
 // The rectangles of a plan, until there is no room or none is to come; how many they are.
 fn fill(r: Ruler, start: Planner, drift: &mut [u64]) -> usize
-    requires { (SoundRuler r) × ((Sound start) × AllSmall (coming start).entries) }
+    requires { (SoundRuler r) × AllSmall (coming start).entries }
     ensures { FilledIs r (coming start).entries drift.old drift.new result }
 {
     let h = r.h;

@@ -1,8 +1,8 @@
 // The planner by value, and what a step and a run answer.
 use object::Verdict;
 use plan::{Answer, End, Entry};
-use tile::Bank;
 use std::marker::Model;
+use tile::Bank;
 use words::Counts;
 
 // Where a plan stands: in a copy plan, in a scaled plan, or at its end. Data, and no closure: a host keeps it as words, and there is no heap.

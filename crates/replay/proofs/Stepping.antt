@@ -22,12 +22,13 @@ use Rattle.plan.specs.Steps.{Coming, coming_of, answers, bank_to, next_of, answe
 use Rattle.giving.specs.Host.{bank_numbers, bank_from, words_after, run_words}
 use Rattle.giving.proofs.HostLaws.{words_after_lem}
 use Rattle.digest.specs.Fnv.{basis, digest_from, digest_of, word_into}
-use Rattle.planner.specs.declared.types.Planner.{Planner}
+use Rattle.planner.specs.Planner.{Planner}
 use Rattle.planner.specs.declared.types.Step.{Step}
 use Rattle.planner.specs.declared.types.Stepped.{Stepped}
 use Rattle.planner.specs.declared.types.Given.{Given}
 use Rattle.planner.specs.declared.types.Given.TheVariants as given
-use Rattle.planner.specs.Coming.{Sound, StepGives, StepIs, coming, answer_in, GivenIn}
+use Rattle.planner.specs.Coming.{StepGives, StepIs, coming, answer_in, GivenIn}
+use Rattle.planner.specs.Planner.{Sound}
 use Rattle.replay.specs.declared.outcome.Outcome.{Outcome}
 use Rattle.replay.specs.declared.steps.Digests.{Digests}
 use Rattle.replay.specs.Outcome.{outcome_of}
@@ -53,14 +54,13 @@ last_bank m k b = bank_to (length k.entries + m) k.entries k.left b
 
 -- once an end is answered no entry is to come
 pub record Under (k : Coming) (b : Bank) (h : ℕ) (p : Planner) (c : Bank) (g ends : ℕ) : Type 0 where
-  pub sound : Sound p
   pub few : ends ≤ 4
   pub none : 0 < ends → (coming p).entries ≡ []
   pub answered : digest_from g (answers_words (all_answers (4 - ends) (coming p))) ≡ digest_from h (answers_words (all_answers 4 k))
   pub banked : last_bank (4 - ends) (coming p) c ≡ last_bank 4 k b
 
-pub under_start : (p : Planner) → Sound p → (b : Bank) (h : ℕ) → Under (coming p) b h p b h 0
-under_start p s b h = record { sound = s; few = omega arith; none = λ l. absurd (omega arith); answered = refl; banked = refl }
+pub under_start : (p : Planner) (b : Bank) (h : ℕ) → Under (coming p) b h p b h 0
+under_start p b h = record { few = omega arith; none = λ l. absurd (omega arith); answered = refl; banked = refl }
 
 -- one step, in terms of what was to come
 record Next (es left : List Entry) (e : End) (b : Bank) (ends after : ℕ) : Type 0 where
@@ -94,7 +94,6 @@ module _ (k : Coming) (b : Bank) (h : ℕ) (p : Planner) (c : Bank) (g ends : �
   pub under_more : (g' : ℕ) → g' ≡ digest_from g (answer_words s.answer) → Under k b h s.planner s.bank g' after
   under_more g' e =
       record {
-        sound = i.sound;
         few = next.few;
         none = λ l. ap (λ (x : Coming). x.entries) i.rest ∙ next.none l;
         answered =
@@ -132,8 +131,8 @@ given_narrow (given.Entry e) x i h = let k : e ≡ x = cc in subst Narrow k h.na
 given_narrow (given.Refused s y) x i h = let z : ◌≡◌ {A = ℕ} 0 1 = cc in absurd (omega arith)
 given_narrow (given.End y) x i h = let z : ◌≡◌ {A = ℕ} 0 1 = cc in absurd (omega arith)
 
-pub passed_start : (p : Planner) → Sound p → Passed 0 (coming p) p
-passed_start p s = record { rest = refl; narrow = tt; sound = s }
+pub passed_start : (p : Planner) → Passed 0 (coming p) p
+passed_start p = record { rest = refl; narrow = tt }
 
 pub passed_more : (i : ℕ) (k : Coming) (p : Planner) → Passed i k p → i < length k.entries → (s : Step) → StepGives p s → Passed (i + 1) k s.planner
 passed_more i k p h l s g =
@@ -143,7 +142,6 @@ passed_more i k p h l s g =
     (record {
       rest = g.rest ∙ rw there (λ j. record { entries = drop (suc i) k.entries; left = (h.rest j).left; end = (h.rest j).end });
       narrow = rw (take-suc k.entries i (entry.Image 0 0 0 0) l) (narrow_more (take i k.entries) x h.narrow (given_narrow s.given x (g.answer ∙ ap (λ (es : List Entry). answer_of es (coming p).end) there) g.ranges));
-      sound = g.sound;
     })
 
 -- ---- a run, then steps

@@ -3,7 +3,7 @@ ghost use Rattle.std.specs.Prelude.{◌≡◌, ◌/◌, ◌≤◌, ◌<◌, leng
 ghost use Rattle.plan.specs.Whole.{plan_of};
 ghost use Rattle.giving.specs.Host.{bank_from};
 ghost use Rattle.digest.specs.Fnv.{digest_from};
-ghost use Rattle.planner.specs.Coming.{Sound, coming};
+ghost use Rattle.planner.specs.Coming.{coming};
 ghost use Rattle.request.specs.Host.{with_bytes};
 ghost use Rattle.replay.specs.Steps.{answer_words, stepped_from, stepped_of};
 ghost use Rattle.replay.specs.Passed.{Passed};
@@ -44,7 +44,6 @@ fn answer_into(hash: u64, a: Answer) -> u64
 
 // To the end, and three steps beyond it.
 fn steps_from(start: Planner, bank: Bank, before: u64) -> Digests
-    requires { Sound start }
     ensures { result ≡ stepped_from before (coming start) bank }
 {
     let mut p = start;
@@ -75,7 +74,7 @@ pub(crate) fn stepped(object: &[u8], q: Request, bank: Bank) -> Digests
 
 // Steps whose entries a run has written already.
 fn pass_over(start: Planner, n: u64) -> Planner
-    requires { (Sound start) × (n ≤ length (coming start).entries) }
+    requires { n ≤ length (coming start).entries }
     ensures { Passed n (coming start) result }
 {
     let mut p = start;

@@ -31,11 +31,12 @@ use Rattle.giving.specs.Placed.{Placed}
 use Rattle.giving.proofs.Placed.{placed_start, placed_more, places_in, settled_is}
 use Rattle.planner.specs.declared.types.Course.{Course}
 use Rattle.planner.specs.declared.types.Course.TheVariants as course
-use Rattle.planner.specs.declared.types.Planner.{Planner}
+use Rattle.planner.specs.Planner.{Planner}
 use Rattle.planner.specs.declared.types.Given.{Given}
 use Rattle.planner.specs.declared.types.Given.TheVariants as given
 use Rattle.planner.specs.declared.types.Step.{Step}
-use Rattle.planner.specs.Coming.{coming, coming_course, coming_from, counts_next, answer_in, left_in, Sound, StepGives, request_of}
+use Rattle.planner.specs.Coming.{coming, coming_course, coming_from, counts_next, answer_in, left_in, StepGives, request_of}
+use Rattle.planner.specs.Planner.{Sound}
 use Rattle.planner.proofs.StepLaws.{gave_entry, gave_rest, gave_end, counts_at_end}
 
 -- D "A whole run writes entries of eleven 64-bit words": the end, the whole buffer and the bank's words

@@ -5,7 +5,7 @@ ghost use Rattle.plan.specs.Run.{end_of};
 ghost use Rattle.plan.specs.Steps.{coming_of};
 ghost use Rattle.words.specs.Counts.{zero_counts};
 ghost use Rattle.giving.specs.Places.{PlacesIn, settled_of};
-ghost use Rattle.planner.specs.Coming.{Sound, coming};
+ghost use Rattle.planner.specs.Coming.{coming};
 ghost use Rattle.request.specs.Host.{with_bytes};
 ghost use Rattle.runs.specs.Ran.{RanIs, StepsTo, stride_of};
 
@@ -35,7 +35,7 @@ fn settled(kept: bool, bank: &mut [u64], places: Places, plan: &[u64])
 
 // Steps to the end, or to an entry that has no room. The counts are kept beside the planner's, which the compiler then drops: both would have to stand until it is known that there is room.
 fn steps(start: Planner, bank: &mut [u64], kept: bool, plan: &mut [u64]) -> End
-    requires { (Sound start) × (start.counts ≡ zero_counts) × (kept ≡ false → 11 ≤ length plan.old) }
+    requires { (start.counts ≡ zero_counts) × (kept ≡ false → 11 ≤ length plan.old) }
     ensures { StepsTo kept (coming start) plan.old bank.old plan.new bank.new result }
 {
     let stride = stride(kept);

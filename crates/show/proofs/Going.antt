@@ -11,11 +11,12 @@ use borrow.Author.Tests.{lt-ltb, le-ltb}
 use Rattle.plan.specs.declared.types.Entry.{Entry}
 use Rattle.plan.specs.declared.types.End.{End}
 use Rattle.plan.specs.Steps.{Coming, next_of}
-use Rattle.planner.specs.declared.types.Planner.{Planner}
+use Rattle.planner.specs.Planner.{Planner}
 use Rattle.planner.specs.declared.types.Given.{Given}
 use Rattle.planner.specs.declared.types.Given.TheVariants as given
 use Rattle.planner.specs.declared.types.Step.{Step}
-use Rattle.planner.specs.Coming.{coming, answer_in, Sound, StepGives}
+use Rattle.planner.specs.Coming.{coming, answer_in, StepGives}
+use Rattle.planner.specs.Planner.{Sound}
 use Rattle.planner.proofs.StepLaws.{gave_entry, gave_rest, gave_end}
 use Rattle.show.specs.declared.text.Chunk as code
 use Rattle.lines.specs.Text.{entry_text, end_text}
@@ -56,23 +57,21 @@ pub record Going (k : Coming) (out₀ out : List ℕ) (p : Planner) (at : ℕ) :
   pub same : length out ≡ length out₀
   pub stands : out ≡ with_text out₀ 0 text
   pub whole : chunk (length out₀) k ≡ and_then text (chunk (length out₀ - at) (coming p))
-  pub sound : Sound p
 
-pub going_start : (p : Planner) → Sound p → (out : List ℕ) → Going (coming p) out out p 0
-going_start p h out =
+pub going_start : (p : Planner) (out : List ℕ) → Going (coming p) out out p 0
+going_start p out =
     let z : length out ≡ length out - 0 = omega arith in
-    record { text = []; place = refl; fits = omega arith; same = refl; stands = sym (with_nil out 0); whole = ap (λ (n : ℕ). chunk n (coming p)) z; sound = h }
+    record { text = []; place = refl; fits = omega arith; same = refl; stands = sym (with_nil out 0); whole = ap (λ (n : ℕ). chunk n (coming p)) z }
 
 module _ (k : Coming) (out₀ out : List ℕ) (p : Planner) (at : ℕ) (g : Going k out₀ out p at) where
   -- the call ends with this chunk
-  closes : (c : Chunk) → chunk (length out₀) k ≡ c → (out' : List ℕ) (r : code.Chunk) → r.count ≡ length c.text → r.done ≡ c.done → out' ≡ with_text out₀ 0 c.text → coming r.planner ≡ c.rest → Sound r.planner → ChunkIs k out₀ out' r
-  closes c e out' r n d o m s =
+  closes : (c : Chunk) → chunk (length out₀) k ≡ c → (out' : List ℕ) (r : code.Chunk) → r.count ≡ length c.text → r.done ≡ c.done → out' ≡ with_text out₀ 0 c.text → coming r.planner ≡ c.rest → ChunkIs k out₀ out' r
+  closes c e out' r n d o m =
       record {
         count = n ∙ ap (λ (x : Chunk). length x.text) (sym e);
         done = d ∙ ap (λ (x : Chunk). x.done) (sym e);
         bytes = o ∙ front out₀ c.text ∙ ap (λ (x : Chunk). x.text ++ drop (length x.text) out₀) (sym e);
         rest = m ∙ ap (λ (x : Chunk). x.rest) (sym e);
-        sound = s;
       }
 
   -- no room for a line
@@ -88,7 +87,6 @@ module _ (k : Coming) (out₀ out : List ℕ) (p : Planner) (at : ℕ) (g : Goin
       refl
       (g.stands ∙ ap (with_text out₀ 0) (sym (append-nil g.text)))
       refl
-      g.sound
 
   module _ (s : Step) (i : StepGives p s) (l : 128 ≤ length out - at) where
     room : 128 ≤ length out₀ - at
@@ -116,7 +114,6 @@ module _ (k : Coming) (out₀ out : List ℕ) (p : Planner) (at : ℕ) (g : Goin
           same = n ∙ g.same;
           stands = after t out' at' q;
           whole = g.whole ∙ ap (and_then g.text) first ∙ ap (λ (x : List ℕ). record { text = x; rest = (chunk (length out₀ - at') (coming s.planner)).rest; done = (chunk (length out₀ - at') (coming s.planner)).done }) (sym (append_assoc g.text t (chunk (length out₀ - at') (coming s.planner)).text));
-          sound = i.sound;
         }
 
     pub going_end : (w : Given) → s.given ≡ w → (e : End) → answer_in w ≡ Err e → (out' : List ℕ) (at' : ℕ) → PutIs out at (end_text e) out' at' → ChunkIs k out₀ out' (record { planner = s.planner; count = at'; done = true })
@@ -139,4 +136,3 @@ module _ (k : Coming) (out₀ out : List ℕ) (p : Planner) (at : ℕ) (g : Goin
         refl
         (after t out' at' q)
         (i.rest ∙ ap (λ (es : List Entry). next_of es c.left c.end) h.0)
-        i.sound

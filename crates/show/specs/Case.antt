@@ -10,8 +10,9 @@ use Rattle.plan.specs.Out.{Plan}
 use Rattle.plan.specs.Run.{rectangles, words_from, end_of}
 use Rattle.plan.specs.Steps.{coming_of}
 use Rattle.plan.specs.Whole.{plan_of}
-use Rattle.planner.specs.declared.types.Planner.{Planner}
-use Rattle.planner.specs.Coming.{coming, Sound}
+use Rattle.planner.specs.Planner.{Planner}
+use Rattle.planner.specs.Coming.{coming}
+use Rattle.planner.specs.Planner.{Sound}
 use Rattle.lines.specs.Text.{end_text, entries_text, plan_text}
 
 -- D "Program `bgplan` reads 61 bytes"; "Fewer bytes print one end line with verdict 2"

@@ -4,7 +4,7 @@ use Rattle.std.specs.Prelude.{◌≡◌, Bool, true, false, cond, List, [], ◌�
 use Rattle.plan.specs.declared.types.Entry.{Entry}
 use Rattle.plan.specs.declared.types.End.{End}
 use Rattle.plan.specs.Steps.{Coming, next_of}
-use Rattle.planner.specs.Coming.{coming, Sound}
+use Rattle.planner.specs.Coming.{coming}
 use Rattle.show.specs.declared.text.Chunk as code
 use Rattle.lines.specs.Text.{entry_text, end_text}
 
@@ -36,4 +36,3 @@ pub record ChunkIs (k : Coming) (out out' : List ℕ) (r : code.Chunk) : Type 0 
   pub done : r.done ≡ (chunk (length out) k).done
   pub bytes : out' ≡ (chunk (length out) k).text ++ drop (length (chunk (length out) k).text) out
   pub rest : coming r.planner ≡ (chunk (length out) k).rest
-  pub sound : Sound r.planner

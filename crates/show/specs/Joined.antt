@@ -8,7 +8,7 @@ use Rattle.plan.specs.declared.types.End.{End}
 use Rattle.plan.specs.Out.{Plan}
 use Rattle.plan.specs.Steps.{Coming, coming_of, next_of}
 use Rattle.plan.specs.Whole.{plan_of}
-use Rattle.planner.specs.declared.types.Planner.{Planner}
+use Rattle.planner.specs.Planner.{Planner}
 use Rattle.planner.specs.Coming.{coming, Fresh, request_of}
 use Rattle.show.specs.declared.text.Chunk as code
 use Rattle.lines.specs.Text.{entry_text, end_text, entries_text, plan_text}

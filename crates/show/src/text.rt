@@ -1,5 +1,5 @@
 // A plan's text, in pieces that the caller's bytes have room for.
-ghost use Rattle.planner.specs.Coming.{Sound, coming};
+ghost use Rattle.planner.specs.Coming.{coming};
 ghost use Rattle.show.specs.Chunk.{ChunkIs};
 
 use lines::{end_line, entry_line};
@@ -19,7 +19,6 @@ pub struct Chunk {
 
 // The lines of the next answers, as long as there is room for any line; with 128 bytes or more there is at least one.
 pub fn next_text(start: Planner, out: &mut [u8]) -> Chunk
-    requires { Sound start }
     ensures { ChunkIs (coming start) out.old out.new result }
 {
     let mut planner = start;

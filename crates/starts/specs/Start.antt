@@ -35,7 +35,7 @@ use Rattle.words.specs.Counts.{zero_counts, counted_all, end_with}
 use Rattle.words.proofs.CountsLaws.{zero_countable, end_of_lem}
 use Rattle.planner.specs.declared.types.Course.{Course}
 use Rattle.planner.specs.declared.types.Course.TheVariants as course
-use Rattle.planner.specs.declared.types.Planner.{Planner}
+use Rattle.planner.specs.Planner.{Planner}
 use Rattle.planner.specs.Coming.{coming_course, coming_from, coming, Starts, StartsCopy, StartsScaled, Fresh, course_of, request_of}
 use Rattle.plan.specs.declared.types.Start.{Start}
 use Rattle.scaled.specs.Range.{StartIn}

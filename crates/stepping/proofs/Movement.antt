@@ -8,12 +8,12 @@ use Rattle.plan.specs.declared.types.Entry.{Entry}
 use Rattle.plan.specs.declared.types.End.{End}
 use Rattle.plan.specs.Steps.{answer_of}
 use Rattle.giving.specs.Host.{words_after}
-use Rattle.planner.specs.declared.types.Planner.{Planner}
+use Rattle.planner.specs.Planner.{Planner}
 use Rattle.planner.specs.declared.types.Given.{Given}
 use Rattle.planner.specs.declared.types.Given.TheVariants as given
 use Rattle.planner.specs.declared.types.Step.{Step}
 use Rattle.planner.specs.Coming.{coming, answer_in, left_in, left_next, counts_next, StepGives}
-use Rattle.planner.specs.Step.{planner_at}
+use Rattle.planner.specs.Planner.{planner_at}
 use Rattle.stored.specs.Stored.{stored_of, StoredIs}
 use Rattle.stepping.specs.Host.{answer_words, sets_in, sets_next, Moved}
 

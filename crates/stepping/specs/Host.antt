@@ -9,11 +9,11 @@ use Rattle.plan.specs.Steps.{Coming, coming_of, next_of, answer_of}
 use Rattle.giving.specs.Host.{words_after}
 use Rattle.request.specs.Host.{host_request}
 use Rattle.planner.specs.declared.types.Course.TheVariants as course
-use Rattle.planner.specs.declared.types.Planner.{Planner}
+use Rattle.planner.specs.Planner.{Planner}
 use Rattle.planner.specs.declared.types.Given.{Given}
 use Rattle.planner.specs.declared.types.Given.TheVariants as given
 use Rattle.planner.specs.Coming.{coming}
-use Rattle.planner.specs.Step.{planner_at}
+use Rattle.planner.specs.Planner.{planner_at}
 use Rattle.stored.specs.Stored.{stored_of, WordsOf, LoadedIs}
 
 -- a step's answer as eleven words

@@ -10,7 +10,7 @@
 
 ghost use Rattle.std.specs.Prelude.{◌≡◌, length};
 ghost use Rattle.giving.specs.Host.{words_after};
-ghost use Rattle.planner.specs.Coming.{Sound, answer_in, GivenIn};
+ghost use Rattle.planner.specs.Coming.{answer_in, GivenIn};
 ghost use Rattle.stored.specs.Stored.{StoredIs};
 ghost use Rattle.stepping.specs.Host.{answer_words, sets_in, Moved, StepIs, StartIs};
 
@@ -48,7 +48,7 @@ fn set_bank(bank: &mut [u64], given: Given)
 }
 
 fn moved(p: Planner, state: &mut [u64], bank: &mut [u64], out: &mut [u64])
-    requires { (Sound p) × ((length state.old ≡ 39) × (length out.old ≡ 11)) }
+    requires { (length state.old ≡ 39) × (length out.old ≡ 11) }
     ensures { Moved p bank.old state.new bank.new out.new }
 {
     let s = p.step();

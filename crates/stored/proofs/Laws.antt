@@ -24,9 +24,9 @@ use Rattle.words.specs.declared.count.Counts.{Counts}
 use Rattle.words.specs.Counts.{Countable}
 use Rattle.planner.specs.declared.types.Course.{Course}
 use Rattle.planner.specs.declared.types.Course.TheVariants as course
-use Rattle.planner.specs.declared.types.Planner.{Planner}
-use Rattle.planner.specs.Coming.{Sound}
-use Rattle.planner.specs.Step.{planner_at}
+use Rattle.planner.specs.Planner.{Planner}
+use Rattle.planner.specs.Planner.{Sound}
+use Rattle.planner.specs.Planner.{planner_at}
 use Rattle.stored_fields.proofs.Laws.{both, each, counts_yes, counts_no}
 use Rattle.stored_fields.specs.Test.{counts_test}
 use Rattle.stored_copy.specs.Course.{copy_words, copy_from, copy_test, place_test}

@@ -1,5 +1,5 @@
 // A planner in 39 words and out of them.
-ghost use Rattle.std.specs.Prelude.{◌≡◌};
+ghost use Rattle.std.specs.Prelude.{◌≡◌, true};
 ghost use Rattle.stored.specs.Stored.{over_words, StoredIs, LoadedIs, verdict_from, counts_from, course_from, planner_from, sound_test};
 
 use checks::number;
@@ -86,7 +86,9 @@ fn course_from(words: &[u64; 39]) -> Course
     )
 }
 
+// The planner of words that were tested.
 fn planner_from(words: &[u64; 39]) -> Planner
+    requires { sound_test words.now ≡ true }
     ensures { result ≡ planner_from words.now }
 {
     let course = course_from(words);

@@ -3,7 +3,7 @@ use Rattle.std.proofs.Common.{arith, refl, sym, ap, ◌∙◌, ◌≡◌, [], �
 use Rattle.std.proofs.lemmas.List.{length-replicate}
 use Rattle.std.specs.Io.KnownBytes.{Appends}
 use Rattle.std.proofs.KnownBytes.{Appends-nil, Appends-trans}
-use Rattle.planner.specs.declared.types.Planner.{Planner}
+use Rattle.planner.specs.Planner.{Planner}
 use Rattle.planner.specs.Coming.{coming}
 use Rattle.show.specs.declared.text.Chunk.{Chunk}
 use Rattle.show.specs.Chunk.{ChunkIs}
@@ -18,7 +18,7 @@ module _ (k : List ℕ) (text : List ℕ) (p : Planner) (out out' : List ℕ) (r
       ∙ sym (append_assoc text (take r.count out') _)
 
 pub loop-planner-init : goal.loop-planner-init
-loop-planner-init g c = record { text = []; out = Appends-nil _; rest = refl; room = length-replicate {A = ℕ} 262144 0; sound = c.requires }
+loop-planner-init g c = record { text = []; out = Appends-nil _; rest = refl; room = length-replicate {A = ℕ} 262144 0 }
 
 pub returns-then-chunk : goal.returns-then-chunk
 returns-then-chunk g c =
@@ -39,5 +39,4 @@ loop-planner-preserved g c =
       out = Appends-trans _ _ _ _ _ l.invariant.out c.in_ok-write_all.ensures.bytes;
       rest = so_far _ l.invariant.text _ _ _ _ c.next_text-chunk.ensures l.invariant.rest false c.if-chunk.false;
       room = c.next_text-chunk.auto.out ∙ l.invariant.room;
-      sound = c.next_text-chunk.ensures.sound;
     }

@@ -1,8 +1,8 @@
 -- A text is out, and what it leaves of the whole text is still to come; each piece but the last has a line, so that fewer entries are to come.
 use Rattle.std.proofs.Common.{◌≡◌, List, ◌++◌, ℕ, length, Option}
 use Rattle.std.specs.Io.KnownBytes.{Appends}
-use Rattle.planner.specs.declared.types.Planner.{Planner}
-use Rattle.planner.specs.Coming.{Sound, coming}
+use Rattle.planner.specs.Planner.{Planner}
+use Rattle.planner.specs.Coming.{coming}
 use Rattle.show.specs.Joined.{coming_text}
 use Rattle.bgplan.proofs.print.Given as goal
 
@@ -11,7 +11,6 @@ pub record Printing {W : Type 0} (contents : W → Option (List ℕ)) (output₀
   pub out : Appends (contents output₀) (contents output) text
   pub rest : coming_text (coming start) ≡ text ++ coming_text (coming planner)
   pub room : length piece ≡ 262144
-  pub sound : Sound planner
 
 abbrev pub invariant-loop-planner : goal.invariant-loop-planner
 invariant-loop-planner g l = Printing g.W.Write.contents l.initial.output l.output l.initial.planner l.planner l.piece

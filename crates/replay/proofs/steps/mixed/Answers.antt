@@ -20,7 +20,7 @@ pub pass_over-rest-requires : goal.pass_over-rest-requires
 pass_over-rest-requires c =
     let w = c.words_of-words.ensures ∙ ap bank_numbers c.bank_from.ensures in
     let r = c.run-end in
-    (c.fresh-p.ensures.sound, rw c.fresh-p.ensures.coming (passable _ _ c.requires.1 _ (bank_fits c.args.stored.now) _ w r.result r.ensures.end))
+    rw c.fresh-p.ensures.coming (passable _ _ c.requires.1 _ (bank_fits c.args.stored.now) _ w r.result r.ensures.end)
 
 pub returns : goal.returns
 returns c =

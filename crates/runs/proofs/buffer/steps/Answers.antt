@@ -1,16 +1,19 @@
 -- What is given and what is to come make up the plan, until the end or a full buffer; the bank waits for the end.
-use Rattle.std.proofs.Common.{refl, ap, ◌∙◌, ◌*◌, arith}
+use Rattle.std.proofs.Common.{refl, subst, ap, ◌∙◌, ◌*◌, arith}
 use Rattle.words.specs.declared.count.Counts.{Counts}
 use Rattle.words.specs.Counts.{end_with}
 use Rattle.giving.specs.Host.{words_after}
 use Rattle.planner.specs.declared.types.Given.TheVariants as given
+use Rattle.planner.specs.Planner.{Sound}
 use Rattle.planner.proofs.StepLaws.{gave_fewer}
 use Rattle.runs.specs.Ran.{next_place, going_start, going_more, going_places, at_in, steps_end, steps_full}
 use Rattle.runs.proofs.buffer.steps.Goals as goal
 use Rattle.runs.proofs.buffer.steps.Goals.{in-Entry+then-plan-at-lt11, in-End}
 
 pub loop-entry-init : goal.loop-entry-init
-loop-entry-init c = (rw c.no_places-places.ensures (going_start _ _ c.requires.0 c.requires.1 _ c.requires.2 _), (c.stride-stride.ensures, (refl, refl)))
+loop-entry-init c =
+    let sound = subst Sound c.start.view_is c.start.invariant in
+    (rw c.no_places-places.ensures (going_start _ _ sound c.requires.0 _ c.requires.1 _), (c.stride-stride.ensures, (refl, refl)))
 
 pub loop-entry-smaller : goal.loop-entry-smaller
 loop-entry-smaller c = gave_fewer c.loop-entry.p c.step-s.result c.step-s.ensures _ c.in-Entry.is

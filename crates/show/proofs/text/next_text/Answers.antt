@@ -5,7 +5,7 @@ use Rattle.show.proofs.Going.{going_start, going_full, going_more, going_end}
 use Rattle.show.proofs.text.next_text.Goals as goal
 
 pub loop-out-init : goal.loop-out-init
-loop-out-init c = going_start c.args.start c.requires c.args.out.now
+loop-out-init c = going_start c.args.start c.args.out.now
 
 pub returns-then-out-count-lt-LINE : goal.returns-then-out-count-lt-LINE
 returns-then-out-count-lt-LINE c = going_full _ _ _ _ _ c.loop-out.invariant c.if-out-count-lt-LINE.true
