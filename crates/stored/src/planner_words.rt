@@ -132,9 +132,5 @@ pub fn load(words: [u64; 39]) -> Option<Planner>
         return None;
     }
     let p = planner_from(&words);
-    if words == stored(p) {
-        Some(p)
-    } else {
-        None
-    }
+    if words == stored(p) { Some(p) } else { None }
 }
