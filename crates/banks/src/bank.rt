@@ -5,7 +5,7 @@ ghost use Rattle.giving.specs.Host.{bank_from, bank_numbers, tile_from};
 
 use tile::{Bank, Tile};
 
-// A word cut to its field.
+// A word cut to its field: one function for each width, as a cast names its type.
 
 fn half(word: u64) -> u16
     ensures { result ≡ word % 2 ^ 16 }

@@ -114,9 +114,6 @@ module _ (ws xs out₀ : List ℕ) (start : ℕ) (fits : start + total_of ws + 1
     unfolding total_of
     filled_end = omega (arith, h.place, h.room)
 
-    pub filled_long : length out ≡ length out₀
-    filled_long = ap length row_stands ∙ with_length out₀ start (row ws xs) (omega (arith, fits, filled_end, h.place, ap length row_is))
-
     pub line_long : total_of ws ≤ length (line ws xs)
     line_long = omega (arith, filled_end, h.place, ap length row_is, length-append (row ws xs) (newline ∷ []))
 
