@@ -54,7 +54,7 @@ fn steps_from(start: Planner, bank: Bank, before: u64) -> Digests
         let s = p.step_with(b);
         let answer = s.answer;
         answers = answer_into(answers, answer);
-        if answer.is_err() {
+        if let Err(_) = answer {
             ends += 1;
         }
         p = s.planner;

@@ -1,5 +1,8 @@
 // The planner of a request: the checks, the set-up of its mode, and where its plan starts.
 ghost use Rattle.checks.specs.Known.{PassedCopy, PassedScaled};
+ghost use Rattle.std.specs.Prelude.{◌≡◌, ◌≤◌};
+ghost use Rattle.words.specs.Counts.{zero_counts};
+ghost use Rattle.planner.specs.Planner.{planner_at, SoundCourse, left_course};
 ghost use Rattle.planner.specs.Coming.{Fresh, StartsCopy, StartsScaled};
 
 use copy::{Due, Stage};
@@ -38,15 +41,11 @@ fn scaled_course(bg: ObjBg, q: Request) -> Course
     }
 }
 
-// The planner of any request; one that is refused ends at its first step.
-pub fn fresh(object: &[u8], q: Request) -> Planner
-    ensures { Fresh object.now q.opcode q.scissor q.mode q.address result }
+// A planner at the start of a course: nothing is given yet.
+fn started(course: Course) -> Planner
+    requires { (SoundCourse course) × (left_course course ≤ 6000000) }
+    ensures { result ≡ planner_at course zero_counts }
 {
-    let course = match checks::checked(object, q.opcode, q.scissor) {
-        Ok(Background::Copy(bg)) => copy_course(bg, q),
-        Ok(Background::Scaled(bg)) => scaled_course(bg, q),
-        Err(v) => Course::Over(v),
-    };
     let counts = Counts {
         entries: 0,
         rectangles: 0,
@@ -54,4 +53,15 @@ pub fn fresh(object: &[u8], q: Request) -> Planner
         line: 0,
     };
     Planner { course, counts }
+}
+
+// The planner of any request; one that is refused ends at its first step.
+pub fn fresh(object: &[u8], q: Request) -> Planner
+    ensures { Fresh object.now q.opcode q.scissor q.mode q.address result }
+{
+    match checks::checked(object, q.opcode, q.scissor) {
+        Ok(Background::Copy(bg)) => started(copy_course(bg, q)),
+        Ok(Background::Scaled(bg)) => started(scaled_course(bg, q)),
+        Err(v) => started(Course::Over(v)),
+    }
 }

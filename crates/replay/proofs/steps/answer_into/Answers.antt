@@ -3,10 +3,10 @@ use Rattle.giving.specs.Host.{end_numbers}
 use Rattle.replay.specs.Steps.{answer_words}
 use Rattle.replay.proofs.steps.answer_into.Goals as goal
 
-pub returns-in-Entry : goal.returns-in-Entry
+pub returns-in-Ok : goal.returns-in-Ok
 unfolding answer_words
-returns-in-Entry c = rw (c.in-Entry.is, c.digest_from.ensures, c.entry_words-words.ensures)
+returns-in-Ok c = rw (c.in-Ok.is, c.digest_from.ensures, c.entry_words-words.ensures)
 
-pub returns-in-End : goal.returns-in-End
+pub returns-in-Err : goal.returns-in-Err
 unfolding answer_words end_numbers
-returns-in-End c = rw (c.in-End.is, c.digest_from-in-End.ensures, c.number.ensures)
+returns-in-Err c = rw (c.in-Err.is, c.digest_from-in-Err.ensures, c.number.ensures)

@@ -6,4 +6,4 @@ use Rattle.replay.proofs.steps.pass_over.Goals as goal
 pub loop-preserved : goal.loop-preserved
 loop-preserved c =
     let l = c.loop in
-    passed_more _ _ _ l.invariant (omega (arith, c.requires)) c.step.result c.step.ensures
+    passed_more _ _ _ l.invariant (omega (arith, c.requires)) c.step-p.result c.step-p.ensures

@@ -3,14 +3,14 @@ use Rattle.std.proofs.Common.{◌≡◌, ◌+◌, arith, ap, ◌∙◌}
 use Rattle.digest.specs.Fnv.{digest_of}
 use Rattle.replay.proofs.Stepping.{under_more, under_less, under_over}
 use Rattle.replay.specs.Steps.{ends_in}
-use Rattle.replay.proofs.steps.steps_from.Goals.{in-End, in_default}
+use Rattle.replay.proofs.steps.steps_from.Goals.{in-Err, in_default}
 use Rattle.replay.proofs.steps.steps_from.Goals as goal
 
 counted : (c : goal.After-b-1) → c.match-answer.ends ≡ c.loop-ends.ends + ends_in c.step_with-s.result.answer
 unfolding ends_in
 counted c =
     elim c.match-answer.branch [
-      | in-End w ↦ omega (arith, w.ends-is, ap ends_in w.in-End.is)
+      | in-Err w ↦ omega (arith, w.ends-is, ap ends_in w.in-Err.is)
       | in_default w ↦ omega (arith, w.ends-is, ap ends_in w.in_default.is)
     ]
 

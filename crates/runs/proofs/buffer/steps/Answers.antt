@@ -4,16 +4,22 @@ use Rattle.words.specs.declared.count.Counts.{Counts}
 use Rattle.words.specs.Counts.{end_with}
 use Rattle.giving.specs.Host.{words_after}
 use Rattle.planner.specs.declared.types.Given.TheVariants as given
-use Rattle.planner.specs.Planner.{Sound}
+use Rattle.giving.specs.Places.{no_places}
+use Rattle.planner.specs.Planner.{Planner, planner_at}
+use Rattle.planner.specs.Coming.{coming}
 use Rattle.planner.proofs.StepLaws.{gave_fewer}
-use Rattle.runs.specs.Ran.{next_place, going_start, going_more, going_places, at_in, steps_end, steps_full}
+use Rattle.runs.specs.Ran.{Going, next_place, going_start, going_more, going_places, at_in, steps_end, steps_full}
 use Rattle.runs.proofs.buffer.steps.Goals as goal
 use Rattle.runs.proofs.buffer.steps.Goals.{in-Entry+then-plan-at-lt11, in-End}
 
 pub loop-entry-init : goal.loop-entry-init
 loop-entry-init c =
-    let sound = subst Sound c.start.view_is c.start.invariant in
-    (rw c.no_places-places.ensures (going_start _ _ sound c.requires.0 _ c.requires.1 _), (c.stride-stride.ensures, (refl, refl)))
+    let s = c.start in
+    let buf = c.args.plan.now in
+    let n = s.inside.counts in
+    let zero = ap (λ (p : Planner). p.counts) s.view_is ∙ c.requires.0 in
+    let going = going_start c.args.kept (planner_at s.inside.course n) s.invariant zero buf c.requires.1 c.stride-stride.result in
+    (rw c.no_places-places.ensures (subst (λ (p : Planner). Going c.args.kept (coming p) buf buf p n (n.entries * c.stride-stride.result) no_places) s.view_is going), (c.stride-stride.ensures, (refl, refl)))
 
 pub loop-entry-smaller : goal.loop-entry-smaller
 loop-entry-smaller c = gave_fewer c.loop-entry.p c.step-s.result c.step-s.ensures _ c.in-Entry.is
