@@ -12,30 +12,38 @@ use settling::{bounds_at, tile_at};
 fn sets_nothing(entry: &[u64; 11]) -> bool
     ensures { result ≡ sets_nothing entry.now }
 {
-    (entry[0] == 1) | (entry[0] == 5)
+    matches!(entry[0], 1 | 5)
 }
 
 fn sets_tile(entry: &[u64; 11]) -> bool
     ensures { result ≡ sets_tile entry.now }
 {
-    (entry[0] == 2) & (entry[1] < 8)
+    matches!(entry, [2, 0..=7, ..])
 }
 
 // A size or a load: bounds of more than 16 bits are no tile's.
 fn sets_bounds(entry: &[u64; 11]) -> bool
     ensures { result ≡ sets_bounds entry.now }
 {
-    ((entry[0] == 3) | (entry[0] == 4))
-        & ((entry[1] < 8)
-            & ((entry[2] < 65536)
-                & ((entry[3] < 65536) & ((entry[4] < 65536) & (entry[5] < 65536)))))
+    matches!(
+        entry,
+        [
+            3 | 4,
+            0..=7,
+            0..=0xffff,
+            0..=0xffff,
+            0..=0xffff,
+            0..=0xffff,
+            ..
+        ]
+    )
 }
 
 // The words are no entry's.
 #[derive(Clone, Copy)]
 pub struct NoEntry;
 
-// Sets what the entry sets, and nothing where the words are no entry's.
+// Sets what the entry sets, and nothing where the words are no entry's. The bank is no array, since this holds of a bank of any length: a type of 136 words would ask more of callers.
 pub fn apply(bank: &mut [u64], entry: &[u64; 11]) -> Result<(), NoEntry>
     ensures { applied (answer_of result) bank.new ≡ applied_of entry.now bank.old }
 {

@@ -1,14 +1,14 @@
 -- A bank as words and out of words: number by number; and a bank whose numbers fit their fields, as entries leave it, comes back from its words.
 -- Assumes nothing.
-use mathlib.Core.Path.{◌≡◌, refl, sym, ap, ◌∙◌}
+use mathlib.Core.Path.{◌≡◌, refl, ap, ◌∙◌}
 use mathlib.Core.List.{List, [], ◌∷◌, ◌++◌}
 use Prim.Native.Nat.{ℕ, zero, suc, ◌%◌, ◌^◌, ◌<◌, ◌≤◌}
 use native.Mathlib.Nat.{mod-eq_of_lt}
 use native.Mathlib.Omega.{arith}
-use lib.ListN.{length, drop, get_or, set, length-set}
-use lib.Seq.{drop-drop}
-use Rattle.std.specs.List.{flat_map, slice_range}
-use Rattle.std.proofs.lemmas.Slice.{between_to_end}
+use lib.ListN.{length, take, drop, get_or, set, length-set}
+use Rattle.std.proofs.lemmas.List.{get_or-take}
+use Rattle.std.specs.List.{flat_map}
+use Rattle.std.specs.Simd.{first_chunks}
 use Rattle.tile.specs.declared.bank.Tile.{Tile}
 use Rattle.tile.specs.declared.bank.Bank.{Bank}
 use Rattle.tile.specs.Bank.{blank, replaced, resized, extent, set_tile, set_size}
@@ -23,12 +23,38 @@ use Rattle.banks.specs.Narrows.{AllNarrow}
 
 -- ---- words into a bank
 
-whole : (ws : List ℕ) (i : ℕ) → drop i ws ≡ slice_range ws i (length ws)
-whole ws i = sym (between_to_end ws i (length ws) (omega arith))
+-- a tile's words are the first seventeen
+tile_of : (ws : List ℕ) → tile_from (take 17 ws) ≡ tile_from ws
+unfolding tile_from
+tile_of ws =
+    let w : (k : ℕ) → k < 17 → get_or (take 17 ws) k 0 ≡ get_or ws k 0 = λ k l. get_or-take 17 ws k 0 l in
+    rw (
+      w 0 (omega arith),
+      w 1 (omega arith),
+      w 2 (omega arith),
+      w 3 (omega arith),
+      w 4 (omega arith),
+      w 5 (omega arith),
+      w 6 (omega arith),
+      w 7 (omega arith),
+      w 8 (omega arith),
+      w 9 (omega arith),
+      w 10 (omega arith),
+      w 11 (omega arith),
+      w 12 (omega arith),
+      w 13 (omega arith),
+      w 14 (omega arith),
+      w 15 (omega arith),
+      w 16 (omega arith),
+    ) refl
 
-pub eight_from : (ws : List ℕ) → bank_from ws ≡ record { tiles = tile_from ws ∷ tile_from (slice_range ws 17 (length ws)) ∷ tile_from (slice_range ws 34 (length ws)) ∷ tile_from (slice_range ws 51 (length ws)) ∷ tile_from (slice_range ws 68 (length ws)) ∷ tile_from (slice_range ws 85 (length ws)) ∷ tile_from (slice_range ws 102 (length ws)) ∷ tile_from (slice_range ws 119 (length ws)) ∷ [] }
-unfolding bank_from tiles_from
-eight_from ws = simp drop-drop (λ i. record { tiles = tile_from ws ∷ tile_from (whole ws 17 i) ∷ tile_from (whole ws 34 i) ∷ tile_from (whole ws 51 i) ∷ tile_from (whole ws 68 i) ∷ tile_from (whole ws 85 i) ∷ tile_from (whole ws 102 i) ∷ tile_from (whole ws 119 i) ∷ [] })
+-- tiles of chunks of seventeen words are those of the words
+pub tiles_are : (n : ℕ) (ws : List ℕ) (ts : List Tile) → length ts ≡ n → ((i : ℕ) → i < n → get_or ts i blank ≡ tile_from (get_or (first_chunks 17 n ws) i [])) → ts ≡ tiles_from n ws
+unfolding tiles_from
+tiles_are zero ws [] e h = refl
+tiles_are zero ws (t ∷ ts) e h = absurd (omega arith)
+tiles_are (suc n) ws [] e h = absurd (omega arith)
+tiles_are (suc n) ws (t ∷ ts) e h = λ j. (h 0 (omega arith) ∙ tile_of ws) j ∷ tiles_are n (drop 17 ws) ts (omega arith) (λ i l. h (suc i) (omega arith)) j
 
 -- ---- a bank into words
 

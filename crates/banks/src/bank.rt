@@ -1,4 +1,4 @@
-// A bank out of words and as words: eight tiles of seventeen.
+// A bank out of words and as words: eight tiles of seventeen. By name and not by From, since the bank's type and the definitions of its words lie in lower crates.
 ghost use Rattle.std.specs.Prelude.{◌≡◌, ◌%◌, ◌*◌, ◌^◌, ◌≤◌, ◌<◌, length, drop};
 ghost use Rattle.plan.specs.Check.{tile_numbers};
 ghost use Rattle.giving.specs.Host.{bank_from, bank_numbers, tile_from};
@@ -19,11 +19,10 @@ fn byte(word: u64) -> u8
     (word % 0x100) as u8
 }
 
-// The tile that words begin with.
+// A tile's words as the tile.
 #[tactic(auto, unfolding(giving::specs::Host::tile_from))]
-fn tile_from(words: &[u64]) -> Tile
-    requires { 17 ≤ length words.now }
-    ensures { result ≡ tile_from words.now }
+fn tile_from(words: [u64; 17]) -> Tile
+    ensures { result ≡ tile_from words }
 {
     Tile {
         uls: half(words[0]),
@@ -46,22 +45,13 @@ fn tile_from(words: &[u64]) -> Tile
     }
 }
 
-// Tile by tile: under `array::from_fn` the closure would need clauses that are longer than the table.
-pub fn bank_from(words: &[u64]) -> Bank
-    requires { length words.now ≡ 136 }
+pub fn bank_from(words: &[u64; 136]) -> Bank
     ensures { result ≡ bank_from words.now }
 {
-    let tiles = [
-        tile_from(words),
-        tile_from(&words[17..]),
-        tile_from(&words[34..]),
-        tile_from(&words[51..]),
-        tile_from(&words[68..]),
-        tile_from(&words[85..]),
-        tile_from(&words[102..]),
-        tile_from(&words[119..]),
-    ];
-    Bank { tiles }
+    let tiles = <[[u64; 17]; 8]>::try_from(words.as_chunks::<17>().0).unwrap();
+    Bank {
+        tiles: tiles.map(tile_from),
+    }
 }
 
 #[tactic(auto, unfolding(plan::specs::Check::tile_numbers))]

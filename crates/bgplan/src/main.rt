@@ -32,7 +32,7 @@ fn read<R: Read>(input: &mut R, bytes: &mut [u8]) -> io::Result<usize>
     Ok(n)
 }
 
-// The text of all that a planner has to come, in large pieces. The one place where it goes out; after a write that fails nothing more does.
+// The text of all that a planner has to come, in large pieces. No other function writes, and this one writes nothing more after a write that fails.
 fn print<W: Write>(output: &mut W, start: Planner) -> io::Result<()>
     ensures { OnOk result (Appends (W.contents output.old) (W.contents output.new) (coming_text (coming start))) }
 {
@@ -41,7 +41,7 @@ fn print<W: Write>(output: &mut W, start: Planner) -> io::Result<()>
     loop {
         let chunk = show::next_text(planner, &mut piece);
         output.write_all(&piece[..chunk.count])?;
-        if chunk.done {
+        if chunk.end.is_some() {
             return Ok(());
         }
         planner = chunk.planner;

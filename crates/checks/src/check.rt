@@ -1,5 +1,5 @@
 // The checks of a request, in the verdicts' order.
-ghost use Rattle.std.specs.Prelude.{◌≡◌, ◌<◌, ◌^◌, ltb};
+ghost use Rattle.std.specs.Prelude.{◌≡◌, ◌<◌, ◌^◌, not, ◌||◌, ltb, eqb};
 ghost use Rattle.checks.specs.Check.{verdict_number, any, opcode_bad, edge_bad, scissor_bad, object_faults, copy_faults, object_of};
 ghost use Rattle.checks.specs.Known.{CheckedIs};
 
@@ -9,29 +9,37 @@ use object::{Background, ObjBg, Scissor, Verdict, decode_obj_bg};
 // Bytes of a pointer in the object.
 const POINTER: usize = 4;
 
+// A function, and no `From` beside the type: the definition of the numbers is this crate's.
 pub fn number(v: Verdict) -> u64
     ensures { result ≡ verdict_number v }
 {
     v as u64
 }
 
-// The opcode stays the caller's byte: it is told apart here and by `checked` alone.
+// The opcode stays the caller's byte: a request may hold any, and no function after `checked` asks for it.
 fn opcode_bad(opcode: u8) -> bool
     ensures { result ≡ opcode_bad opcode }
 {
-    !((opcode == 9) | (opcode == 10))
+    !matches!(opcode, 9 | 10)
 }
 
 fn edge_bad(edge: i32) -> bool
     ensures { result ≡ edge_bad edge }
 {
-    (edge < 0) | (1023 < edge)
+    !(0..=1023).contains(&edge)
 }
 
+// Here and below tests are joined by `|`, without a short circuit: each may be made whatever the others say, so the compiler is free to order and to join them, and makes one comparison of the four edges.
 fn scissor_bad(s: Scissor) -> bool
     ensures { result ≡ scissor_bad s }
 {
     edge_bad(s.ulx) | edge_bad(s.uly) | edge_bad(s.lrx) | edge_bad(s.lry)
+}
+
+fn load_bad(load: u16) -> bool
+    ensures { result ≡ not (eqb load 0x0033 || eqb load 0xfff4) }
+{
+    !matches!(load, 0x0033 | 0xfff4)
 }
 
 fn object_bad(bg: ObjBg) -> bool
@@ -43,7 +51,7 @@ fn object_bad(bg: ObjBg) -> bool
         | (quarters(bg.frame_h) == 0)
         | (3 < bg.image_siz)
         | (4 < bg.image_fmt)
-        | !((bg.image_load == 0x0033) | (bg.image_load == 0xfff4))
+        | load_bad(bg.image_load)
 }
 
 // Any bit above the lowest.

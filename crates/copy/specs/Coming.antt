@@ -3,6 +3,7 @@
 use Rattle.std.specs.Prelude.{◌≡◌, refl, Bool, true, false, List, [], ◌∷◌, ◌++◌, ℕ, ◌+◌, ◌<◌, ltb, Option, Some, None}
 use Rattle.std.proofs.Common.{sym, ap, ◌∙◌, append_assoc, append-nil, arith, ltb-true, lt-ltb, le-ltb}
 use Rattle.object.specs.declared.types.Verdict.TheVariants as verdict
+use Rattle.tile.specs.declared.bank.Bounds.{Bounds}
 use Rattle.load_tile.specs.declared.load.LoadRequest.{LoadRequest}
 use Rattle.plan.specs.declared.types.Copy.{Copy}
 use Rattle.plan.specs.declared.types.Entry.{Entry}
@@ -13,7 +14,6 @@ use Rattle.plan.specs.Copy.{field, strip_entries, strip, columns, strip_row_of, 
 use Rattle.plan.specs.Laws.{more_nil, more_more, more_bind, columns_on, columns_end, columns_fuel, rows_on, rows_end, rows_fuel}
 use Rattle.plan.specs.Next.{cons, Follows}
 use Rattle.plan.specs.Sound.{SoundCopy}
-use Rattle.copy.specs.declared.types.Area.{Area}
 use Rattle.copy.specs.declared.types.Due.{Due}
 use Rattle.copy.specs.declared.types.Due.TheVariants as due
 use Rattle.copy.specs.declared.types.Stage.{Stage}
@@ -124,7 +124,7 @@ unfolding tile7_next coming_copy
 tile7_follows p true e = ap plan_out (too_big_lem p e)
 tile7_follows p false e = ap plan_out (fits p e) ∙ plan_more (tile_entry p 7 0 0) (tail_of stage.Tile0 p)
 
-load_follows : (p : Place) (a : Area) (q : Option LoadRequest) → Follows coming_walk (plan_out (load_out q 7 a.uls a.ult a.lrs a.lrt >> due_tail due.Rect p)) (as_next (load_next q a p))
+load_follows : (p : Place) (a : Bounds) (q : Option LoadRequest) → Follows coming_walk (plan_out (load_out q 7 a.uls a.ult a.lrs a.lrt >> due_tail due.Rect p)) (as_next (load_next q a p))
 unfolding load_next load_out coming_copy tail_of
 load_follows p a (Some r) = plan_more _ (due_tail due.Rect p)
 load_follows p a None = refl

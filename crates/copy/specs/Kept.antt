@@ -2,13 +2,13 @@
 -- Assumes nothing.
 use Rattle.std.specs.Prelude.{◌≡◌, refl, Bool, true, false, ℕ, ◌+◌, ◌-◌, ◌*◌, ◌≤◌, ◌<◌, ltb, Option, Some, None}
 use Rattle.std.proofs.Common.{arith, ltb-true, ltb-false}
+use Rattle.tile.specs.declared.bank.Bounds.{Bounds}
 use Rattle.load_tile.specs.declared.load.LoadRequest.{LoadRequest}
 use Rattle.plan.specs.declared.types.Copy.{Copy}
 use Rattle.plan.specs.Copy.{strip_row_of, strip_height_of}
 use Rattle.plan.specs.Next.{Next}
 use Rattle.plan.specs.Next.Next.{give, over}
 use Rattle.plan.specs.Sound.{SoundCopy}
-use Rattle.copy.specs.declared.types.Area.{Area}
 use Rattle.copy.specs.declared.types.Due.TheVariants as due
 use Rattle.copy.specs.declared.types.Stage.{Stage}
 use Rattle.copy.specs.declared.types.Stage.TheVariants as stage
@@ -54,7 +54,7 @@ unfolding tile7_next
 tile7 p true h = tt
 tile7 p false h = let s = h.copy in record { sound = h; less = omega arith }
 
-loaded : (p : Place) (a : Area) (q : Option LoadRequest) → SoundPlace p → Kept (left_copy stage.Load p) (as_next (load_next q a p))
+loaded : (p : Place) (a : Bounds) (q : Option LoadRequest) → SoundPlace p → Kept (left_copy stage.Load p) (as_next (load_next q a p))
 unfolding load_next
 loaded p a (Some r) h = let s = h.copy in record { sound = h; less = omega arith }
 loaded p a None h = tt

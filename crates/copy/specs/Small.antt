@@ -2,11 +2,11 @@
 -- Assumes nothing.
 use Rattle.std.specs.Prelude.{◌≡◌, Ok, Err, Option, Some, None, refl, Bool, true, false, cond, ℕ, ◌≤◌, eqb}
 use Rattle.std.proofs.Common.{arith}
+use Rattle.tile.specs.declared.bank.Bounds.{Bounds}
 use Rattle.load_tile.specs.declared.load.LoadRequest.{LoadRequest}
 use Rattle.load_tile.specs.Load.{rows_in_request}
 use Rattle.load_tile.specs.Rows.{rows_in}
 use Rattle.plan.specs.Sound.{SoundCopy, Narrow, EntryIn}
-use Rattle.copy.specs.declared.types.Area.{Area}
 use Rattle.copy.specs.declared.types.Due.{Due}
 use Rattle.copy.specs.declared.types.Due.TheVariants as due
 use Rattle.copy.specs.declared.types.Stage.{Stage}
@@ -23,7 +23,7 @@ NextIn (Err (end.Overflow e)) = Narrow e
 NextIn (Err end.Finished) = Unit {0}
 
 -- a load's bounds
-record AreaIn (a : Area) : Type 0 where
+record AreaIn (a : Bounds) : Type 0 where
   pub uls : a.uls ≤ 65535
   pub ult : a.ult ≤ 65535
   pub lrs : a.lrs ≤ 65535
@@ -56,7 +56,7 @@ tile0_in p s = tile_in p 0 _ _ s (chosen p.copy.flip 1 (omega arith)) (chosen p.
 size_in : (p : Place) → EntryIn (size_entry p)
 size_in p = record { rows = omega arith; line = omega arith; narrow = (omega arith, (omega arith, (omega arith, omega arith))); names = refl }
 
-load_in : (q : Option LoadRequest) (a : Area) (p : Place) → rows_in_request q ≤ 16384 → AreaIn a → NextIn (load_next q a p)
+load_in : (q : Option LoadRequest) (a : Bounds) (p : Place) → rows_in_request q ≤ 16384 → AreaIn a → NextIn (load_next q a p)
 unfolding load_next
 load_in (Some r) a p h k = record { rows = h; line = omega arith; narrow = (k.uls, (k.ult, (k.lrs, k.lrt))); names = refl }
 load_in None a p h k = (k.uls, (k.ult, (k.lrs, k.lrt)))

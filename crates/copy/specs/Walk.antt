@@ -1,19 +1,20 @@
 -- One step of the copy walk: the entry that is due, and where the walk stands after it. D is docs/SPECIFICATION.md.
 -- Assumes nothing.
-use Rattle.std.specs.Prelude.{◌≡◌, Bool, true, false, cond, Result, Ok, Err, Option, Some, None, [], ◌∷◌, ℕ, ◌+◌, ◌-◌, ◌*◌, ◌%◌, ◌^◌, ◌<◌, ltb, ℤ, pos, neg_ℤ}
+use Rattle.std.specs.Prelude.{◌≡◌, Bool, true, false, cond, Result, Ok, Err, Option, [], ◌∷◌, ℕ, ◌+◌, ◌-◌, ◌*◌, ◌%◌, ◌^◌, ◌<◌, ltb, ℤ, pos, neg_ℤ}
 use Rattle.signed.specs.Cast.{i16}
 use Rattle.object.specs.declared.types.Verdict.TheVariants as verdict
 use Rattle.measures.specs.Measure.{quarters, of_texels, rows_high}
+use Rattle.tile.specs.declared.bank.Bounds.{Bounds}
 use Rattle.load_tile.specs.declared.load.LoadRequest.{LoadRequest}
 use Rattle.load_tile.specs.Load.{request_of}
 use Rattle.plan.specs.declared.types.Copy.{Copy}
 use Rattle.plan.specs.declared.types.Entry.{Entry}
 use Rattle.plan.specs.declared.types.Entry.TheVariants as entry
 use Rattle.plan.specs.Copy.{field, bound, strip_of, strip_row_of, strip_height_of}
+use Rattle.loading.specs.Load.{answer_of}
 use Rattle.plan.specs.Next.{Next}
 use Rattle.plan.specs.Next.Next.{give, over}
 use Rattle.plan.specs.Sound.{SoundCopy}
-use Rattle.copy.specs.declared.types.Area.{Area}
 use Rattle.copy.specs.declared.types.Due.{Due}
 use Rattle.copy.specs.declared.types.Due.TheVariants as due
 use Rattle.copy.specs.declared.types.Stage.{Stage}
@@ -21,7 +22,7 @@ use Rattle.copy.specs.declared.types.Stage.TheVariants as stage
 use Rattle.copy.specs.declared.types.Place.{Place}
 use Rattle.copy.specs.declared.types.CopyEnd.{CopyEnd}
 use Rattle.copy.specs.declared.types.CopyEnd.TheVariants as end
-use Rattle.strips.specs.Strip.{Bounds, Rows}
+use Rattle.strips.specs.Strip.{Bounds as StripBounds, Rows}
 
 -- ---- where a walk stands
 
@@ -51,7 +52,7 @@ pub record SoundPlace (p : Place) : Type 0 where
   pub x : p.x < p.copy.width
   pub y : p.y < p.copy.height
   pub rows : Rows p.copy p.y p.sy p.strip_height
-  pub strip : Bounds p.copy p.x p.strip
+  pub strip : StripBounds p.copy p.x p.strip
 
 -- what the first step asks
 pub record SoundStart (p : Place) : Type 0 where
@@ -83,7 +84,7 @@ abbrev pub size_entry : Place → Entry
 size_entry p = entry.Size 0 0 0 (bound (p.strip.load_width - 1)) (bound (p.strip_height - 1))
 
 -- the bounds of the load into tile 7, and what it asks for
-abbrev pub area_of : Place → Area
+abbrev pub area_of : Place → Bounds
 area_of p =
     record {
       uls = bound p.strip.aligned_left;
@@ -92,7 +93,7 @@ area_of p =
       lrt = bound (p.sy + p.strip_height - 1);
     }
 
-abbrev pub request_in : Copy → Area → Option LoadRequest
+abbrev pub request_in : Copy → Bounds → Option LoadRequest
 request_in c a = request_of c.siz (field c) c.address a.uls a.ult a.lrs a.lrt
 
 -- R 531 `if flip { -load_width } else { offset } * 32`
@@ -124,10 +125,14 @@ unfoldable pub tile7_next : Bool → Place → CopyStep
 tile7_next true p = Err end.TooBig
 tile7_next false p = Ok (tile_entry p 7 0 0, stage.Tile0, p)
 
+-- after the load, or its refusal
+abbrev pub load_step : Result Entry Entry → Place → CopyStep
+load_step (Ok e) p = Ok (e, stage.Strip due.Rect, p)
+load_step (Err s) p = Err (end.Overflow s)
+
 -- D verdict 9 "a load refused by 9 has already set tile 7's size"
-unfoldable pub load_next : Option LoadRequest → Area → Place → CopyStep
-load_next (Some r) a p = Ok (entry.Load 7 a.uls a.ult a.lrs a.lrt r.words r.rows r.stride r.start r.length, stage.Strip due.Rect, p)
-load_next None a p = Err (end.Overflow (entry.Size 7 a.uls a.ult a.lrs a.lrt))
+unfoldable pub load_next : Option LoadRequest → Bounds → Place → CopyStep
+load_next q a p = load_step (answer_of q a) p
 
 -- the strip after this one: in the row, in the next row, or none
 unfoldable pub strip_next : (in_row in_frame : Bool) → Due → Place → CopyStep

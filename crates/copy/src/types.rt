@@ -1,15 +1,6 @@
 // Where a copy walk stands, and why it ends.
 use plan::{Copy, Entry, Strip};
 
-// The bounds of a load into tile 7.
-#[derive(Clone, Copy)]
-pub struct Area {
-    pub uls: u16,
-    pub ult: u16,
-    pub lrs: u16,
-    pub lrt: u16,
-}
-
 // What is given before a strip is found: the texture image, once, or the rectangle of the strip before it.
 #[derive(Clone, Copy)]
 pub enum Due {
@@ -29,6 +20,7 @@ pub enum Stage {
 }
 
 // The strip that a walk stands at, computed once for its five entries; at the start one of no cells, before the first row.
+// `SoundPlace` stands in clauses and is no invariant of the type: the place before the first row does not meet it, and `SoundAt` says by the stage which place does. A type of both was tried for scaled plans (crates/loads/src/types.rt).
 #[derive(Clone, Copy)]
 pub struct Place {
     pub copy: Copy,

@@ -4,17 +4,17 @@ ghost use Rattle.measures.specs.Measure.{quarters, of_texels};
 ghost use Rattle.measures.specs.Range.{Below};
 ghost use Rattle.plan.specs.Copy.{field, bound};
 ghost use Rattle.plan.specs.Sound.{SoundCopy};
-ghost use Rattle.copy.specs.Walk.{place_at, start_at, SoundPlace, SoundAt, image_entry, tile_entry, tile0_entry, size_entry, area_of, request_in, first_texel, rect_entry, due_entry, too_big, load_next, copy_next_of};
+ghost use Rattle.copy.specs.Walk.{place_at, start_at, SoundPlace, SoundAt, image_entry, tile_entry, tile0_entry, size_entry, area_of, first_texel, rect_entry, due_entry, too_big, copy_next_of};
 ghost use Rattle.copy.specs.declared.types.Stage.TheVariants as stage;
 
-use crate::types::{Area, CopyEnd, CopyNext, Due, Place, Stage};
-use load_tile::LoadRequest;
+use crate::types::{CopyEnd, CopyNext, Due, Place, Stage};
 use measures::Quarters;
 use plan::{Copy, Entry, Strip};
 use strips::{strip_height, strip_of, strip_row};
+use tile::Bounds;
 
 // At cell x of the row of strips at line y.
-pub fn place_at(c: Copy, x: u64, y: u64, sy: u64, strip_height: u64) -> Place
+fn place_at(c: Copy, x: u64, y: u64, sy: u64, strip_height: u64) -> Place
     requires sound_copy { SoundCopy c }
     requires x_lt_width { x < c.width }
     ensures { result ≡ place_at c x y sy strip_height }
@@ -67,7 +67,7 @@ fn image_entry(c: Copy) -> Entry
     Entry::Image {
         fmt: c.fmt,
         siz: c.siz,
-        width: width as u64,
+        width: u64::from(width),
         address: c.address,
     }
 }
@@ -77,12 +77,11 @@ fn tile_entry(p: Place, index: u64, cms: u64, masks: u64) -> Entry
 {
     let c = p.copy;
     let s = p.strip;
-    let line = s.line % 65536;
     Entry::Tile {
         index,
         fmt: c.fmt,
         siz: c.siz,
-        line,
+        line: s.line % 65536,
         tmem: 0,
         palette: c.palette,
         cms,
@@ -123,12 +122,12 @@ fn size_entry(p: Place) -> Entry
         index: 0,
         uls: 0,
         ult: 0,
-        lrs: lrs as u64,
-        lrt: lrt as u64,
+        lrs: u64::from(lrs),
+        lrt: u64::from(lrt),
     }
 }
 
-pub fn area_of(p: Place) -> Area
+fn area_of(p: Place) -> Bounds
     requires { SoundPlace p }
     ensures { result ≡ area_of p }
 {
@@ -137,7 +136,7 @@ pub fn area_of(p: Place) -> Area
     let ult = bound_of(p.sy);
     let lrs = bound_of(s.aligned_left + s.load_width - 1);
     let lrt = bound_of(p.sy + p.strip_height - 1);
-    Area { uls, ult, lrs, lrt }
+    Bounds { uls, ult, lrs, lrt }
 }
 
 // A flipped strip starts at the end of what was loaded, and runs back.
@@ -145,13 +144,13 @@ fn first_texel(flip: bool, load_width: u64, offset: u64) -> i64
     requires { (load_width ≤ 65535) × (offset ≤ 65535) }
     ensures { result ≡ first_texel flip load_width offset }
 {
-    if flip {
-        let s = measures::of_rows(-(load_width as i64));
-        i64::from(signed::signed16(s.0))
+    let texel = if flip {
+        -(load_width as i64)
     } else {
-        let s = measures::of_rows(offset as i64);
-        i64::from(signed::signed16(s.0))
-    }
+        offset as i64
+    };
+    let s = measures::of_rows(texel);
+    i64::from(signed::signed16(s.0))
 }
 
 // Where a cell lies that is a number of cells after an edge.
@@ -186,7 +185,7 @@ fn rect_entry(p: Place) -> Entry
 }
 
 // The strip does not fit texture memory.
-pub fn too_big(p: Place) -> bool
+fn too_big(p: Place) -> bool
     requires { SoundPlace p }
     ensures { result ≡ too_big p }
 {
@@ -207,57 +206,17 @@ fn tile7_next(p: Place) -> CopyNext
     Ok((entry, Stage::Tile0, p))
 }
 
-// The answer to what the load asked for.
-#[tactic(auto, unfolding(crate::specs::Walk::load_next))]
-fn loaded(request: Option<LoadRequest>, a: Area, p: Place) -> CopyNext
-    ensures { result ≡ load_next request a p }
-{
-    match request {
-        Some(r) => {
-            let entry = Entry::Load {
-                index: 7,
-                uls: a.uls as u64,
-                ult: a.ult as u64,
-                lrs: a.lrs as u64,
-                lrt: a.lrt as u64,
-                words: r.words,
-                rows: r.rows,
-                stride: r.stride,
-                start: r.start,
-                length: r.length,
-            };
-            Ok((entry, Stage::Strip(Due::Rect), p))
-        }
-        None => {
-            let size = Entry::Size {
-                index: 7,
-                uls: a.uls as u64,
-                ult: a.ult as u64,
-                lrs: a.lrs as u64,
-                lrt: a.lrt as u64,
-            };
-            Err(CopyEnd::Overflow(size))
-        }
-    }
-}
-
-// What a load with these bounds asks for.
-pub fn request_in(c: Copy, a: Area) -> Option<LoadRequest>
-    requires { SoundCopy c }
-    ensures { result ≡ request_in c a }
-{
-    let width = width_field(c.image_width);
-    load_tile::load_request(c.siz as u8, width, c.address, a.uls, a.ult, a.lrs, a.lrt)
-}
-
-#[tactic(auto, unfolding(crate::specs::Walk::copy_next_of))]
+// The load, or the size that a refused one has set.
+#[tactic(auto, unfolding(crate::specs::Walk::copy_next_of, crate::specs::Walk::load_next))]
 fn load_next(p: Place) -> CopyNext
     requires { SoundPlace p }
     ensures { result ≡ copy_next_of stage.Load p }
 {
-    let a = area_of(p);
-    let request = request_in(p.copy, a);
-    loaded(request, a, p)
+    let c = p.copy;
+    let width = width_field(c.image_width);
+    let load = loading::tile7_load(c.siz as u8, width, c.address, area_of(p));
+    let entry = load.map_err(CopyEnd::Overflow)?;
+    Ok((entry, Stage::Strip(Due::Rect), p))
 }
 
 fn due_entry(due: Due, p: Place) -> Entry

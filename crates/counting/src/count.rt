@@ -24,12 +24,7 @@ fn bytes_of(siz: u64, texels: u64) -> u64
     requires { (siz ≤ 3) × (texels ≤ 16383) }
     ensures { AtMost (bytes_of siz texels) 65532 result }
 {
-    match siz {
-        0 => texels / 2,
-        1 => texels,
-        2 => texels * 2,
-        _ => texels * 4,
-    }
+    (texels << siz) / 2
 }
 
 // The load of the strip from this row would reach the end of the address space.

@@ -22,7 +22,7 @@ use Rattle.plan.specs.declared.types.Walk.{Walk}
 use Rattle.plan.specs.declared.types.Clip.{Clip}
 use Rattle.plan.specs.declared.types.First.{First}
 use Rattle.plan.specs.Request.{Request}
-use Rattle.plan.specs.Out.{Out, more, ◌>>=◌, yield, refuse, plan_out}
+use Rattle.plan.specs.Out.{Out, more, ◌>>=◌, yield, refuse}
 use Rattle.plan.specs.Out.Out.{go, stop}
 use Rattle.plan.specs.Load.{load_out, load_tile, source_address}
 use Rattle.plan.specs.Copy.{field, strip_entries, strip, strip_of, columns, rows, copy_empty, copy_of, copy_plan}

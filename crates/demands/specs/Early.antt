@@ -1,6 +1,6 @@
 -- What the verdict table's last column says of 1 to 6: nothing is written. proofs/Early.antt has it of every plan. D is docs/SPECIFICATION.md, section 4.
 -- Assumes nothing.
-use Rattle.std.specs.Prelude.{◌≡◌, [], ℕ, ◌≤◌}
+use Rattle.std.specs.Prelude.{◌≡◌, [], ◌≤◌}
 use Rattle.checks.specs.Check.{verdict_number}
 use Rattle.plan.specs.Out.{Out, plan_out}
 

@@ -1,7 +1,6 @@
 -- A plan's loads after a setting of tile 7, and tile words by the bank at each load. proofs/Loads.antt has that both hold of every plan. D is docs/SPECIFICATION.md, section 10.
 -- Assumes nothing.
 use Rattle.std.specs.Prelude.{◌≡◌, Bool, true, ◌||◌, List, [], ◌∷◌, ℕ, ◌*◌, max, eqb, get_or}
-use Rattle.tile.specs.declared.bank.Tile.{Tile}
 use Rattle.tile.specs.declared.bank.Bank.{Bank}
 use Rattle.tile.specs.Bank.{blank}
 use Rattle.plan.specs.declared.types.Entry.{Entry}

@@ -1,7 +1,8 @@
 -- Demand 3 of what `visor_drift` writes: each rectangle's distance lies between the limits that stand beside it. D is docs/SPECIFICATION.md, section 11.
 -- Assumes nothing.
 use Rattle.std.specs.Prelude.{◌≡◌, refl, Bool, true, false, cond, ◌&&◌, List, [], ◌∷◌, ℕ, zero, suc, ◌+◌, ◌-◌, ◌/◌, ◌%◌, ℤ, pos, ◌+ℤ◌, ◌*ℤ◌, length, take, get_or, ◌≤ℤ◌}
-use Rattle.std.proofs.Common.{sym, true≢false, arith, eq-eqb, eqb-true}
+use Rattle.std.proofs.Common.{arith, eq-eqb, eqb-true}
+use Rattle.std.proofs.lemmas.Bool.{and_parts}
 use Rattle.signed.specs.Diff.{zdiff, zarith}
 use Rattle.signed.specs.Floor.{floor_div, modulo, parts}
 use Rattle.plan.specs.declared.types.Entry.{Entry}
@@ -57,18 +58,14 @@ first_between h (suc n) (b ∷ bs) a = (a.0, first_between h n bs a.1)
 
 -- ---- what the exported function tells
 
-both : (a b : Bool) → (a && b) ≡ true → (a ≡ true) × (b ≡ true)
-both true b e = (refl, e)
-both false b e = absurd (true≢false (sym e))
-
 -- the tests are the conditions
 apt_is : (q : Request) → apt q ≡ true → Apt q
 unfolding apt
 apt_is q e =
     let d = drift_of q in
-    let a = both _ _ e in
-    let b = both _ _ a.1 in
-    let c = both _ _ b.1 in
+    let a = and_parts _ _ e in
+    let b = and_parts _ _ a.1 in
+    let c = and_parts _ _ b.1 in
     record { scaled = eqb-true q.opcode 9 a.0; rows = eqb-true (d.image_h % 4) 0 b.0; origin = eqb-true (modulo d.origin 32) 0 c.0; below = omega (zarith, c.1) }
 
 flagged : (t u : Bool) → ◌≡◌ {A = ℕ} (cond (t && u) 1 0) 1 → t ≡ true

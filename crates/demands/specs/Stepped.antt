@@ -1,6 +1,6 @@
 -- The words that any number of calls of `visor_step` answer, one after another. proofs/Stepped.antt has demands 2 and 3 of them.
 -- Assumes nothing.
-use Rattle.std.specs.Prelude.{List, [], ◌∷◌, ◌++◌, ℕ, ◌+◌}
+use Rattle.std.specs.Prelude.{List, [], ◌∷◌, ◌++◌, ℕ}
 
 -- ---- demand 3: the rectangles are read back from the answers' words, one answer after another
 

@@ -6,6 +6,7 @@ use Rattle.std.proofs.Math.Path.{subst}
 use Rattle.std.specs.Int.{w64}
 use Rattle.signed.specs.Diff.{up, dn, zdiff, zarith, mul_is}
 use Rattle.signed.specs.Floor.{floor_div, modulo, modulo_lt, parts}
+use Rattle.measures.specs.Range.{Around}
 use Rattle.plan.specs.declared.types.Scaled.{Scaled}
 use Rattle.plan.specs.declared.types.Start.{Start}
 use Rattle.plan.specs.Scaled.{first_of}
@@ -49,18 +50,18 @@ unfolding first_of image_offset_of frame_offset_of slice_start_of hidden_of coun
 first_from_lem z i = refl
 
 -- the start and the strip's image row fit, as the distance is within 2^49
-pub start_fits : (e : ℤ) (f : ℕ) → 0 < f → f ≤ 2 ^ 29 → neg_ℤ (pos (2 ^ 49)) ≤ℤ e → e ≤ℤ pos (2 ^ 49) → SFits w64 (slice_start_of f (floor_div e f))
-start_fits e f h k l u = let s = starts e f h in omega zarith
+pub start_fits : (e : ℤ) (f : ℕ) → 0 < f → f ≤ 2 ^ 29 → Around 49 e → SFits w64 (slice_start_of f (floor_div e f))
+start_fits e f h k r = let s = starts e f h in omega zarith
 
-pub slice_in : (e : ℤ) (f : ℕ) → 0 < f → neg_ℤ (pos (2 ^ 49)) ≤ℤ e → e ≤ℤ pos (2 ^ 49) → (neg_ℤ (pos (2 ^ 49)) ≤ℤ floor_div e f) × (floor_div e f ≤ℤ pos (2 ^ 49))
-slice_in e f h l u = let p = parts e f h in omega zarith
+pub slice_in : (e : ℤ) (f : ℕ) → 0 < f → Around 49 e → Around 49 (floor_div e f)
+slice_in e f h r = let p = parts e f h in record { low = omega zarith; high = omega zarith }
 
-pub row_in : (rows : ℕ) (k : ℤ) → rows ≤ 512 → neg_ℤ (pos (2 ^ 49)) ≤ℤ k → k ≤ℤ pos (2 ^ 49) → (neg_ℤ (pos (2 ^ 61)) ≤ℤ slice_start_of rows k) × (slice_start_of rows k ≤ℤ pos (2 ^ 61))
+pub row_in : (rows : ℕ) (k : ℤ) → rows ≤ 512 → Around 49 k → Around 61 (slice_start_of rows k)
 unfolding slice_start_of
-row_in rows k h l u =
+row_in rows k h r =
     let p : up k ≤ 2 ^ 49 = omega zarith in
     let q : dn k ≤ 2 ^ 49 = omega zarith in
-    simp zdiff (omega (zarith, mul-le-mul h p, mul-le-mul h q))
+    record { low = simp zdiff (omega (zarith, mul-le-mul h p, mul-le-mul h q)); high = simp zdiff (omega (zarith, mul-le-mul h p, mul-le-mul h q)) }
 
 module _ (z : Scaled) (i : Start) (v : SoundScaled z) where
   n : ℕ

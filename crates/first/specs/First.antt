@@ -1,9 +1,10 @@
 -- The parts of `first_of`. They are shut, so that a caller's goals stay short. y is the first image row in thirty-seconds, o the image's origin, h the vertical scale, f a strip's frame lines in 1,024ths.
 -- Assumes nothing.
-use Rattle.std.specs.Prelude.{◌≡◌, ℕ, ◌+◌, ◌^◌, ◌≤◌, ℤ, pos, neg_ℤ, ◌+ℤ◌, ◌-ℤ◌, ◌*ℤ◌, ◌≤ℤ◌}
+use Rattle.std.specs.Prelude.{◌≡◌, ℕ, ◌+◌, ◌^◌, ◌≤◌, ℤ, pos, ◌+ℤ◌, ◌-ℤ◌, ◌*ℤ◌}
 use Rattle.signed.specs.Floor.{floor_div, modulo}
 use Rattle.signed.specs.Cast.{clear_low}
 use Rattle.measures.specs.Measure.{whole_rows, of_position, of_lines, whole}
+use Rattle.measures.specs.Range.{Around}
 use Rattle.plan.specs.declared.types.Scaled.{Scaled}
 use Rattle.plan.specs.declared.types.Start.{Start}
 use Rattle.first.specs.declared.first.Cut.{Cut}
@@ -44,6 +45,5 @@ pub record CutIs (z : Scaled) (i : Start) (c : Cut) : Type 0 where
   pub slice : c.slice ≡ slice_of z i
   pub start : c.start ≡ start_of_slice z i
   pub hidden : pos c.hidden ≡ hidden_of (offset_of z i) (start_of_slice z i)
-  pub low : neg_ℤ (pos (2 ^ 49)) ≤ℤ c.slice
-  pub high : c.slice ≤ℤ pos (2 ^ 49)
+  pub around : Around 49 c.slice
   pub most : c.hidden ≤ 2 ^ 30 + 1024

@@ -1,11 +1,11 @@
 -- What the first strip takes and promises.
 -- Assumes nothing.
-use Rattle.std.specs.Prelude.{◌≡◌, ◌^◌, ℤ, pos, neg_ℤ, ◌≤ℤ◌}
+use Rattle.std.specs.Prelude.{◌≡◌, ℤ}
 use Rattle.std.specs.Int.{w64}
 use Rattle.std.proofs.Common.{SFits, to_z, of_z}
 use Rattle.std.proofs.lemmas.Int.{to_z-of_z}
 use Rattle.signed.specs.Diff.{zarith}
-use Rattle.measures.specs.Range.{Below}
+use Rattle.measures.specs.Range.{Below, Around}
 use Rattle.plan.specs.declared.types.Start.{Start}
 use Rattle.plan.specs.declared.types.Scaled.{Scaled}
 use Rattle.plan.specs.declared.types.First.{First}
@@ -15,13 +15,12 @@ use Rattle.plan.specs.Sound.{SoundFirst}
 -- what the first strip needs of the start
 pub record Near (i : Start) : Type 0 where
   pub image_y : Below 20 i.image_y.0
-  pub low : neg_ℤ (pos (2 ^ 33)) ≤ℤ i.origin.0
-  pub high : i.origin.0 ≤ℤ pos (2 ^ 33)
+  pub origin : Around 33 i.origin.0
 
 pub record FirstIs (z : Scaled) (i : Start) (f : First) : Type 0 where
   pub is : f ≡ first_of z i
   pub sound : SoundFirst z f
 
 -- what the number's bits read as
-pub reads49 : {z : ℤ} → neg_ℤ (pos (2 ^ 49)) ≤ℤ z → z ≤ℤ pos (2 ^ 49) → to_z w64 (of_z w64 z) ≡ z
-reads49 {z} l h = let b : SFits w64 z = omega zarith in to_z-of_z w64 z b
+pub reads49 : {z : ℤ} → Around 49 z → to_z w64 (of_z w64 z) ≡ z
+reads49 {z} r = let b : SFits w64 z = omega zarith in to_z-of_z w64 z b

@@ -1,8 +1,8 @@
 // The first strip, which the frame's top may cut.
-ghost use Rattle.std.specs.Prelude.{◌≡◌, ◌+◌, ◌-◌, ◌*◌, ◌/◌, ◌≤◌, ◌^◌, pos, neg_ℤ, ◌+ℤ◌, ◌-ℤ◌, ◌≤ℤ◌, ◌<ℤ◌};
+ghost use Rattle.std.specs.Prelude.{◌≡◌, ◌+◌, ◌-◌, ◌*◌, ◌/◌, ◌≤◌, ◌^◌, pos, ◌+ℤ◌, ◌-ℤ◌, ◌≤ℤ◌, ◌<ℤ◌};
 ghost use Rattle.std.specs.Int.{w64};
 ghost use Rattle.std.proofs.Common.{SFits};
-ghost use Rattle.measures.specs.Range.{Below};
+ghost use Rattle.measures.specs.Range.{Below, Around};
 ghost use Rattle.plan.specs.Sound.{SoundScaled};
 ghost use Rattle.first.specs.Near.{Near, FirstIs};
 ghost use Rattle.first.specs.First.{image_offset_of, frame_offset_of, slice_start_of, hidden_of, count_of, image_row_of, CutIs};
@@ -20,20 +20,19 @@ pub(crate) struct Cut {
 
 // The distance from the origin, in 1,024ths of an image row.
 fn image_offset(y: ThirtySeconds, origin: ThirtySeconds) -> i64
-    requires below { Below 20 y.0 }
-    requires pos_bound { (neg_ℤ (pos (2 ^ 33)) ≤ℤ origin.0) × (origin.0 ≤ℤ pos (2 ^ 33)) }
+    requires { (Below 20 y.0) × Around 33 origin.0 }
     ensures value { result ≡ image_offset_of y.0 origin.0 }
-    ensures lower_bound { (neg_ℤ (pos (2 ^ 39)) ≤ℤ result) × (result ≤ℤ pos (2 ^ 39)) }
+    ensures around { Around 39 result }
 {
     measures::of_position(ThirtySeconds(y.0 - origin.0))
 }
 
 // The same in 1,024ths of a frame line, rounded down to a whole line.
 fn frame_offset(offset: i64, scale_h: Scale) -> i64
-    requires pos_bound { (neg_ℤ (pos (2 ^ 39)) ≤ℤ offset) × (offset ≤ℤ pos (2 ^ 39)) }
+    requires around { Around 39 offset }
     requires bound { (1 ≤ scale_h.0) × (scale_h.0 ≤ 65535) }
     ensures value { result ≡ frame_offset_of offset scale_h.0 }
-    ensures lower_bound { (neg_ℤ (pos (2 ^ 49)) ≤ℤ result) × (result ≤ℤ pos (2 ^ 49)) }
+    ensures around { Around 49 result }
 {
     measures::of_lines(signed::floor_div(offset, scale_h.0))
 }
@@ -50,7 +49,7 @@ fn slice_start(rows: u64, slice: i64) -> i64
 // What the frame's top cuts off the strip.
 fn hidden_of(offset: i64, start: i64) -> u64
     requires start_le_offset { (start ≤ℤ offset) × (offset <ℤ (start +ℤ pos (2 ^ 30))) }
-    requires pos_bound { (neg_ℤ (pos (2 ^ 49)) ≤ℤ offset) × (offset ≤ℤ pos (2 ^ 49)) }
+    requires around { Around 49 offset }
     ensures result_value { pos result ≡ hidden_of offset start }
     ensures upper_bound { result ≤ 2 ^ 30 + 1024 }
 {
@@ -67,8 +66,7 @@ fn count_of(start: i64, frame_rows: u64, hidden: u64) -> i64
 
 // The image row under the frame's first line.
 fn image_row(start: i64, origin: ThirtySeconds, hidden: u64, source_rows: u64) -> u64
-    requires pos_bound { (neg_ℤ (pos (2 ^ 61)) ≤ℤ start) × (start ≤ℤ pos (2 ^ 61)) }
-    requires pos_bound_2 { (neg_ℤ (pos (2 ^ 33)) ≤ℤ origin.0) × (origin.0 ≤ℤ pos (2 ^ 33)) }
+    requires around { (Around 61 start) × Around 33 origin.0 }
     requires hidden_bound { (hidden ≤ 2 ^ 40) × ((1 ≤ source_rows) × (source_rows ≤ 16383)) }
     ensures { result ≡ image_row_of start origin.0 (pos hidden) source_rows }
 {
@@ -115,20 +113,14 @@ pub fn first_of(z: Scaled, i: Start) -> First
     ensures { FirstIs z i result }
 {
     let cut = cut_of(z, i);
-    let slice = cut.slice;
     let image_hidden = image_hidden_of(cut.hidden, z.scale_h);
-    let count = count_of(cut.start, z.frame_rows, cut.hidden);
-    let t = measures::row_part(image_hidden);
-    let slice_rows = rows_left(z.image_rows, image_hidden);
-    let top = slice_start(z.image_rows, slice);
-    let image_row = image_row(top, i.origin, image_hidden, z.source_rows);
-    let hidden_rows = image_hidden as i64;
+    let top = slice_start(z.image_rows, cut.slice);
     First {
-        slice,
-        image_hidden: hidden_rows,
-        count,
-        t,
-        slice_rows,
-        image_row,
+        slice: cut.slice,
+        image_hidden: image_hidden as i64,
+        count: count_of(cut.start, z.frame_rows, cut.hidden),
+        t: measures::row_part(image_hidden),
+        slice_rows: rows_left(z.image_rows, image_hidden),
+        image_row: image_row(top, i.origin, image_hidden, z.source_rows),
     }
 }

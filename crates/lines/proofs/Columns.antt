@@ -9,7 +9,7 @@ use lib.Dec.{ltb, leb}
 use lib.ListN.{length, take, drop, set, replicate, length-append, length-replicate, replicate-append-replicate}
 use lib.Seq.{take-take}
 use borrow.Author.Tests.{ltb-true, ltb-false}
-use Rattle.std.proofs.lemmas.Bool.{le-leb, lt-leb}
+use Rattle.std.proofs.lemmas.Bool.{le-leb, lt-leb, and_parts}
 use Rattle.lines.specs.Text.{space, minus, digits_of, leading, column, is_negative, magnitude_of, cell}
 use Rattle.lines.specs.Lines.{with_text, PutIs, Blank, DigitsIs}
 use Rattle.lines.proofs.Texts.{with_nil, with_before, with_lead}
@@ -52,10 +52,6 @@ pub record Writing (out₀ : List ℕ) (at end n₀ : ℕ) (out : List ℕ) (n i
 pub writing_start : (out : List ℕ) (at end n : ℕ) → at ≤ end → Writing out at end n out n end
 writing_start out at end n l =
     record { from = l; done = []; place = omega arith; is = sym (append-nil (digits_of (end - at) n)); stands = sym (with_nil out end) }
-
-both : (a b : Bool) → (a && b) ≡ true → (a ≡ true) × (b ≡ true)
-both true b e = (refl, e)
-both false b e = let z : ◌≡◌ {A = ℕ} 0 1 = cc in absurd (omega arith)
 
 module _ (out₀ : List ℕ) (at end n₀ : ℕ) (out : List ℕ) (n i : ℕ) (h : Writing out₀ at end n₀ out n i) where
   -- one place more to the left
@@ -152,7 +148,7 @@ module _ (out : List ℕ) (at w x : ℕ) (b : Blank out at w) (end : ℕ) (e : e
       number_is ∙ ap (λ (n : ℕ). with_text out n number) k ∙ blanks (r - at) (omega (arith, place)) number ∙ ap (λ (xs : List ℕ). with_text out at (xs ++ number)) (sym (plain (is_negative w x) i)))
 
   pub marked_from : (is_negative w x && ltb at r) ≡ true → at < r
-  marked_from i = ltb-true at r (both (is_negative w x) (ltb at r) i).1
+  marked_from i = ltb-true at r (and_parts (is_negative w x) (ltb at r) i).1
 
   -- the minus sign before the digits
   pub put_marked : (is_negative w x && ltb at r) ≡ true → PutIs out at (cell w x) (set out' (r - 1) minus) end
@@ -170,4 +166,4 @@ module _ (out : List ℕ) (at w x : ℕ) (b : Blank out at w) (end : ℕ) (e : e
       s
       ∙ blanks k (omega (arith, place)) (minus ∷ number)
       ∙ ap (with_text out at) (sym (append_assoc (replicate k space) (minus ∷ []) number))
-      ∙ (λ y. with_text out at (leading (cond (sym (both (is_negative w x) (ltb at r) i).0 y) minus space) (sym n y) ++ number)))
+      ∙ (λ y. with_text out at (leading (cond (sym (and_parts (is_negative w x) (ltb at r) i).0 y) minus space) (sym n y) ++ number)))

@@ -6,6 +6,8 @@ ghost use Rattle.lines.specs.Lines.{with_text, Blank, DigitsIs, PutIs};
 // Columns of this width hold addresses and lengths, which are never negative.
 const WIDE: u8 = 21;
 
+// A place goes with all of the caller's bytes and not with a part of them: the promises are equations for every byte.
+
 // Blanks from one place to another: a line gets its blanks at once, so that a column writes nothing but its number.
 #[tactic(auto, unfolding(crate::specs::Lines::with_text))]
 pub(crate) fn blank(out: &mut [u8], at: usize, end: usize)
@@ -19,14 +21,14 @@ pub(crate) fn blank(out: &mut [u8], at: usize, end: usize)
 fn is_negative(width: u8, x: u64) -> bool
     ensures { result ≡ is_negative width x }
 {
-    (width < WIDE) & (0x8000_0000_0000_0000 <= x)
+    (width < WIDE) & x.cast_signed().is_negative()
 }
 
 fn magnitude(width: u8, x: u64) -> u64
     ensures { result ≡ magnitude_of width x }
 {
     if is_negative(width, x) {
-        0xffff_ffff_ffff_ffff - x + 1
+        x.wrapping_neg()
     } else {
         x
     }

@@ -7,7 +7,7 @@ use crate::column::{blank, put};
 use plan::{End, Entry};
 use words::{end_words, entry_words};
 
-// The places of a row.
+// The places of a row. A loop: the sum of an iterator over mapped widths would need a law to the definition's recursion.
 #[tactic(auto, unfolding(crate::specs::Lines::total_of))]
 fn total(widths: [u8; 11]) -> usize
     ensures { result ≡ total_of widths }
@@ -40,10 +40,9 @@ fn widths_of(e: Entry) -> [u8; 11]
 {
     match e {
         Entry::Image { .. } => [2, 8, 8, 8, 21, 0, 0, 0, 0, 0, 0],
-        Entry::Tile { .. } => [2, 8, 8, 8, 8, 8, 8, 8, 8, 8, 8],
+        Entry::Tile { .. } | Entry::Rect { .. } => [2, 8, 8, 8, 8, 8, 8, 8, 8, 8, 8],
         Entry::Size { .. } => [2, 8, 8, 8, 8, 8, 0, 0, 0, 0, 0],
         Entry::Load { .. } => [2, 8, 8, 8, 8, 8, 8, 8, 8, 21, 21],
-        Entry::Rect { .. } => [2, 8, 8, 8, 8, 8, 8, 8, 8, 8, 8],
     }
 }
 

@@ -2,6 +2,8 @@
 ghost use Rattle.std.specs.Prelude.{◌≡◌, ◌+◌, ◌^◌, ◌≤◌, ◌-◌};
 ghost use Rattle.load_tile.specs.Load.{AtMost, words_in, words_of, rows_of, stride_of, offset_of, granted, request_of};
 
+use tile::Bounds;
+
 #[derive(Clone, Copy)]
 pub struct LoadRequest {
     pub words: u64,
@@ -25,17 +27,13 @@ fn span(low: u16, high: u16) -> u64
     u64::from(high.saturating_sub(low))
 }
 
-// The words of a row that has so many columns after its first. siz stays a number, as in an object's byte and an entry's word: an enum would be made and taken apart in every function, and the definitions count in 2^siz. By cases, as a division by a number that is not constant would stand in every load.
+// The words of a row that has so many columns after its first. siz stays a number, as in an object's byte and an entry's word: an enum would be made and taken apart in every function, and the definitions count in 2^siz.
+#[tactic(auto, using(crate::proofs::Shift::half))]
 pub fn words_in(siz: u64, columns: u64) -> u64
     requires { siz ≤ 3 }
     ensures { result ≡ words_in siz columns }
 {
-    match siz {
-        0 => columns / 16 + 1,
-        1 => columns / 8 + 1,
-        2 => columns / 4 + 1,
-        _ => columns / 2 + 1,
-    }
+    (columns >> (4 - siz)) + 1
 }
 
 fn words_per_row(siz: u8, uls: u16, lrs: u16) -> u64
@@ -77,32 +75,22 @@ pub fn granted(address: u64, offset: u64, length: u64) -> bool
 }
 
 // The request of a load, from the texture image's siz, width field and address and the tile's bounds; none where its bytes do not end by 2^64 - 1.
-pub fn load_request(
-    siz: u8,
-    width: u16,
-    address: u64,
-    uls: u16,
-    ult: u16,
-    lrs: u16,
-    lrt: u16,
-) -> Option<LoadRequest>
+pub fn load_request(siz: u8, width: u16, address: u64, bounds: Bounds) -> Option<LoadRequest>
     requires { siz ≤ 3 }
-    ensures { result ≡ request_of siz width address uls ult lrs lrt }
+    ensures { result ≡ request_of siz width address bounds.uls bounds.ult bounds.lrs bounds.lrt }
 {
-    let words = words_per_row(siz, uls, lrs);
-    let rows = row_count(ult, lrt);
+    let words = words_per_row(siz, bounds.uls, bounds.lrs);
+    let rows = row_count(bounds.ult, bounds.lrt);
     let stride = bytes_per_row(siz, width);
-    let offset = offset(siz, stride, uls, ult);
+    let offset = offset(siz, stride, bounds.uls, bounds.ult);
     let length = (rows - 1) * stride + 8 * words;
-    if granted(address, offset, length) {
-        Some(LoadRequest {
-            words,
-            rows,
-            stride,
-            start: address + offset,
-            length,
-        })
-    } else {
-        None
-    }
+    let start = address.checked_add(offset)?;
+    start.checked_add(length)?;
+    Some(LoadRequest {
+        words,
+        rows,
+        stride,
+        start,
+        length,
+    })
 }

@@ -1,6 +1,6 @@
 -- What the row counts of a sound pass read as in a word, and the ranges of the sums made of them.
 -- Assumes nothing.
-use Rattle.std.specs.Prelude.{◌≡◌, ◌+◌, ◌≤◌, ◌<◌, ◌^◌, ℕ, ℤ, pos, ◌+ℤ◌}
+use Rattle.std.specs.Prelude.{◌≡◌, ◌+◌, ◌≤◌, ◌<◌, ◌^◌, ℕ, ℤ, pos, ◌+ℤ◌, ◌-ℤ◌}
 use Rattle.std.specs.Int.{w64}
 use Rattle.std.specs.Int.Signed.{mag}
 use Rattle.std.proofs.Common.{◌∙◌, arith, lit<, lit≤, to_z, of_z}
@@ -14,7 +14,7 @@ use Rattle.plan.specs.declared.types.Source.{Source}
 use Rattle.plan.specs.Sound.{SoundScaled}
 use Rattle.loads.specs.declared.types.Place.{Place}
 use Rattle.loads.specs.Coming.{loadable_of}
-use Rattle.loads.specs.Comes.{read_in, plus_in, less_in}
+use Rattle.loads.specs.Comes.{wider, read_in, plus_in, less_in}
 use Rattle.loads.specs.Kept.{remain_in, rows_in}
 use Rattle.loads.specs.Sound.{SoundPass}
 
@@ -39,7 +39,17 @@ module _ (p : Place) (h : SoundPass p) where
   pub remain_is : to_z w64 (of_z w64 p.walk.source.remain) ≡ p.walk.source.remain
   remain_is = read_in 43 p.walk.source.remain (lit≤ tt) (remain_in p.walk h.walk)
 
+  -- the rows before the image's last, less what runs over: what the call asks, and its result
+  pub left_asks : Within 61 (to_z w64 (of_z w64 p.walk.source.remain)) × (p.scaled.split ≤ 2 ^ 40)
+  left_asks = let s = h.scaled in (rw remain_is (wider 43 61 _ (lit≤ tt) (remain_in p.walk h.walk)), omega (arith, s.split))
+
+  pub left_is : {r : ℤ} → mag r < 2 ^ 63 → r ≡ to_z w64 (of_z w64 p.walk.source.remain) -ℤ pos p.scaled.split → to_z w64 (of_z w64 r) ≡ loadable_of p.scaled p.walk.source
+  left_is f e = value f (rw remain_is at e)
+
   -- the rows of a pass's load
+  pub load_is : {r : ℤ} → mag r < 2 ^ 63 → r ≡ to_z w64 (of_z w64 p.rows) +ℤ pos p.scaled.bilerp → to_z w64 (of_z w64 r) ≡ p.rows +ℤ pos p.scaled.bilerp
+  load_is f e = value f (rw rows_is at e)
+
   pub load_in : Within 44 (p.rows +ℤ pos p.scaled.bilerp)
   load_in = let s = h.scaled in plus_in 43 p.rows p.scaled.bilerp (rows_in p h) (omega (arith, s.bilerp))
 

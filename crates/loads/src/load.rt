@@ -19,13 +19,7 @@ use plan::{Scaled, Source};
 fn part_bad(rows: i64, destination: i64, width: i64) -> bool
     ensures { result ≡ part_bad rows destination width }
 {
-    if rows <= 0 {
-        return true;
-    }
-    if width <= 0 {
-        return true;
-    }
-    destination < 0
+    rows <= 0 || width <= 0 || destination < 0
 }
 
 // The part as the next that is given, with its tile, or verdict 8.
@@ -43,18 +37,10 @@ fn enter(k: Piece, pointer: u64, rows: i64, destination: i64, width: i64, p: Pla
         destination,
         width,
     };
-    let scaled = p.scaled;
-    let walk = p.walk;
-    let next = p.next;
     let q = Place {
-        scaled,
-        walk,
-        rows: p.rows,
-        lines: p.lines,
         part,
-        spare: p.spare,
-        next,
         piece: k,
+        ..p
     };
     Ok((Stage::Tile, q))
 }
@@ -64,14 +50,11 @@ pub fn whole_part(p: Place) -> Part
     requires { SoundPass p }
     ensures { (result ≡ whole_part p) × SoundPart result }
 {
-    let z = p.scaled;
-    let w = p.walk;
-    let source = w.source;
     Part {
-        pointer: source.pointer,
-        rows: plus(p.rows, z.bilerp),
+        pointer: p.walk.source.pointer,
+        rows: plus(p.rows, p.scaled.bilerp),
         destination: 0,
-        width: z.line as i64,
+        width: p.scaled.line as i64,
     }
 }
 
@@ -86,13 +69,12 @@ fn back(z: Scaled, odd: u64, pointer: u64) -> Option<u64>
 }
 
 // After the rows up to the image's end: the move, and the rectangle.
+// Here and in `moved_on` the place is copied and one field set: by `Place { next, ..p }` each field is copied by itself, and a step took 9 parts in 100 more instructions.
 fn moved(p: Place) -> Reached
     requires { SoundPass p }
     ensures { Reaches (pass_from p (after_part Rest p)) (1 + left_pass p) result }
 {
-    let w = p.walk;
-    let source = w.source;
-    let next = advance(p.scaled, source, p.rows).ok_or(Verdict::Address)?;
+    let next = advance(p.scaled, p.walk.source, p.rows).ok_or(Verdict::Address)?;
     let mut q = p;
     q.next = next;
     Ok((Stage::Rect, q))
@@ -103,14 +85,13 @@ pub fn moved_on(p: Place) -> Reached
     requires { SoundPass p }
     ensures { Reaches (pass_from p (after_whole p)) (1 + left_pass p) result }
 {
-    let z = p.scaled;
-    let w = p.walk;
-    let source = w.source;
-    let rows = p.rows;
-    let pointer = source_address(source.pointer, times(rows, z.stride)).ok_or(Verdict::Address)?;
-    let remain = difference(source.remain, rows);
+    let source = p.walk.source;
+    let bytes = times(p.rows, p.scaled.stride);
+    let pointer = source_address(source.pointer, bytes).ok_or(Verdict::Address)?;
+    let remain = difference(source.remain, p.rows);
+    let next = Source { pointer, remain };
     let mut q = p;
-    q.next = Source { pointer, remain };
+    q.next = next;
     Ok((Stage::Rect, q))
 }
 
@@ -120,11 +101,10 @@ fn rest(p: Place) -> Reached
     requires meets { Meets Choice.Rest p }
     ensures { Reaches (pass_from p (after_part SplitA p)) (4 + left_pass p) result }
 {
-    let z = p.scaled;
-    let w = p.walk;
-    let source = w.source;
-    let loadable = less(source.remain, z.split);
-    enter(Piece::Rest, source.pointer, loadable, 0, z.line as i64, p)
+    let source = p.walk.source;
+    let loadable = less(source.remain, p.scaled.split);
+    let width = p.scaled.line as i64;
+    enter(Piece::Rest, source.pointer, loadable, 0, width, p)
 }
 
 // The two parts of the image's last row: their rows, where they go, and the width of the first.
@@ -144,9 +124,7 @@ fn split_a(p: Place) -> Reached
     requires { SoundPass p }
     ensures { Reaches (pass_from p (after_part SplitB p)) (7 + left_pass p) result }
 {
-    let w = p.walk;
-    let source = w.source;
-    let s = split(p.scaled, source);
+    let s = split(p.scaled, p.walk.source);
     let rows = s.odd as i64 + 1;
     enter(Piece::SplitA, p.spare, rows, s.from, s.width, p)
 }
@@ -157,12 +135,10 @@ fn split_b(pointer: u64, spare: u64, s: Split, p: Place) -> Reached
     requires split_is { SplitIs p.scaled p.walk.source s }
     ensures { Reaches (parts_from p pointer spare) (10 + left_pass p) result }
 {
-    let z = p.scaled;
     let rows = s.odd as i64 + 1;
     let destination = sum(s.from, s.width);
-    let width = difference(z.line as i64, s.width);
-    let mut q = p;
-    q.spare = spare;
+    let width = difference(p.scaled.line as i64, s.width);
+    let q = Place { spare, ..p };
     enter(Piece::SplitB, pointer, rows, destination, width, q)
 }
 
@@ -173,8 +149,7 @@ fn split_row(p: Place) -> Reached
     ensures { Reaches (pass_from p (after_part Top p)) (10 + left_pass p) result }
 {
     let z = p.scaled;
-    let w = p.walk;
-    let source = w.source;
+    let source = p.walk.source;
     let s = split(z, source);
     let loadable = less(source.remain, z.split);
     let p1 = source_address(source.pointer, times(loadable, z.stride)).ok_or(Verdict::Address)?;
@@ -191,13 +166,12 @@ fn from_top(lines: i64, p: Place) -> Reached
     ensures { Reaches (top_then p lines) (13 + left_pass p) result }
 {
     let z = p.scaled;
-    let w = p.walk;
-    let source = w.source;
-    let rows = difference(lines, source.remain);
+    let remain = p.walk.source.remain;
+    let rows = difference(lines, remain);
     let first = z.address.checked_add(z.x_offset).ok_or(Verdict::Address)?;
-    let odd = signed::rem_euclid(source.remain, 2);
+    let odd = signed::rem_euclid(remain, 2);
     let pointer = back(z, odd, first).ok_or(Verdict::Address)?;
-    let destination = times(less(source.remain, odd), z.line);
+    let destination = times(less(remain, odd), z.line);
     enter(
         Piece::Top,
         pointer,
@@ -214,8 +188,7 @@ fn top(p: Place) -> Reached
     requires meets { Meets Choice.Top p }
     ensures { Reaches (pass_from p (after_part Start p)) (13 + left_pass p) result }
 {
-    let z = p.scaled;
-    from_top(plus(p.rows, z.bilerp), p)
+    from_top(plus(p.rows, p.scaled.bilerp), p)
 }
 
 // A load that does not wrap is one part.
@@ -236,13 +209,11 @@ fn after_split(p: Place) -> Choice
     requires { SoundPass p }
     ensures { Chose SplitA p result }
 {
-    let z = p.scaled;
-    let w = p.walk;
-    let source = w.source;
-    if less(source.remain, z.split) <= 0 {
-        return Choice::Last;
+    if less(p.walk.source.remain, p.scaled.split) <= 0 {
+        Choice::Last
+    } else {
+        Choice::Rest
     }
-    Choice::Rest
 }
 
 // The image's last row has parts of its own only where it runs over.
@@ -250,11 +221,11 @@ fn after_top(p: Place) -> Choice
     requires { SoundPass p }
     ensures { Chose Top p result }
 {
-    let z = p.scaled;
-    if z.split == 0 {
-        return after_split(p);
+    if p.scaled.split == 0 {
+        after_split(p)
+    } else {
+        Choice::SplitB
     }
-    Choice::SplitB
 }
 
 // The whole load where no row wraps; else the rows from the top, where there are any.
@@ -262,19 +233,15 @@ fn at_start(p: Place) -> Choice
     requires { SoundPass p }
     ensures { Chose Start p result }
 {
-    let z = p.scaled;
-    let w = p.walk;
-    let source = w.source;
-    let load_rows = plus(p.rows, z.bilerp);
-    let loadable = less(source.remain, z.split);
-    if load_rows <= loadable {
-        return Choice::Whole;
+    let remain = p.walk.source.remain;
+    let load_rows = plus(p.rows, p.scaled.bilerp);
+    if load_rows <= less(remain, p.scaled.split) {
+        Choice::Whole
+    } else if difference(load_rows, remain) <= 0 {
+        after_top(p)
+    } else {
+        Choice::Top
     }
-    let rows = difference(load_rows, source.remain);
-    if rows <= 0 {
-        return after_top(p);
-    }
-    Choice::Top
 }
 
 // The part that comes after a part, chosen before it is made, so that each is made in one place.
@@ -291,7 +258,7 @@ fn chosen(k: Piece, p: Place) -> Choice
     }
 }
 
-// What comes after a part: the one call of each, so that the compiler inlines them.
+// What comes after a part. With calls in place of `Choice`, `after_split` and `after_top` would stand in two callers, and each part would be compiled twice.
 pub fn after_part(k: Piece, p: Place) -> Reached
     requires { SoundPass p }
     ensures { Reaches (pass_from p (after_part k p)) (after_piece k + left_pass p) result }

@@ -11,12 +11,13 @@ pub struct Part {
     pub width: i64,
 }
 
-// The two parts of the image's last row: whether it is an odd one, where in texture memory the first goes, and its width.
+// The two parts of the image's last row: 1 where it is an odd one, where in texture memory the first goes, and its width.
+// `odd` is a number and no bool: it is added to a count of rows.
 #[derive(Clone, Copy)]
-pub struct Split {
-    pub odd: u64,
-    pub from: i64,
-    pub width: i64,
+pub(crate) struct Split {
+    pub(crate) odd: u64,
+    pub(crate) from: i64,
+    pub(crate) width: i64,
 }
 
 // Which part of a load that wraps is given: none yet, the rows from the image's top, the two parts of its last row, and the rows before that.
@@ -31,7 +32,7 @@ pub enum Piece {
 
 // What comes after a part: the whole load, where no row wraps; another part; the tile alone; or the move.
 #[derive(Clone, Copy)]
-pub enum Choice {
+pub(crate) enum Choice {
     Whole,
     Top,
     SplitB,
@@ -72,6 +73,8 @@ pub enum Stage {
 }
 
 // A pass under way: the walk before it, its rows and lines, the part that is given and which one it is, the pointer of the last row's first part, and where the next pass starts.
+// What holds of a place goes with the stage: `SoundPass` in a pass, and less before the first (`SoundAt`). So it stands in clauses and is no invariant of the type; for the planner, which has both, it is one.
+// A type of a stage and a place with this invariant was tried: it is as fast, but whoever makes one proves the range for the type and again for what is reached, and the planner, which stores the two apart, makes one and takes it apart at each step.
 #[derive(Clone, Copy)]
 pub struct Place {
     pub scaled: Scaled,

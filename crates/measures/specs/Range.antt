@@ -6,7 +6,7 @@ use Rattle.std.proofs.Common.{SFits, to_z, of_z}
 use Rattle.std.proofs.lemmas.Int.{to_z-of_z}
 use Rattle.signed.specs.Diff.{up, ge_dn, zdiff, zarith}
 
--- z lies in 0..2^k − 1, and in −2^k..2^k − 1
+-- z lies in 0..2^k − 1, in −2^k..2^k − 1, and in −2^k..2^k
 pub record Below (k : ℕ) (z : ℤ) : Type 0 where
   pub low : pos 0 ≤ℤ z
   pub high : z ≤ℤ pos (2 ^ k - 1)
@@ -14,6 +14,10 @@ pub record Below (k : ℕ) (z : ℤ) : Type 0 where
 pub record Within (k : ℕ) (z : ℤ) : Type 0 where
   pub low : neg_ℤ (pos (2 ^ k)) ≤ℤ z
   pub high : z ≤ℤ pos (2 ^ k - 1)
+
+pub record Around (k : ℕ) (z : ℤ) : Type 0 where
+  pub low : neg_ℤ (pos (2 ^ k)) ≤ℤ z
+  pub high : z ≤ℤ pos (2 ^ k)
 
 -- a number that is not negative is what `up` takes of it
 pub counted : {z : ℤ} → pos 0 ≤ℤ z → pos (up z) ≡ z

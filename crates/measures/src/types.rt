@@ -1,4 +1,4 @@
-// The three measures.
+// The three measures. A measure's range (`Below`, `Within`) is another at nearly every step of a set-up, so it stands in clauses: with a type for each range every step would convert.
 
 // 10.2: widths, heights and frame positions, in quarters of a texel.
 #[derive(Clone, Copy)]

@@ -7,12 +7,11 @@ use Rattle.plan.specs.declared.types.Entry.{Entry}
 use Rattle.plan.specs.Demand as demand
 use Rattle.planner.specs.Planner.{Planner}
 use Rattle.planner.specs.Coming.{coming}
-use Rattle.planner.specs.Planner.{Sound}
 use Rattle.small.specs.Small.{AllSmall}
 use Rattle.ruler.specs.declared.types.Ruler.{Ruler}
 use Rattle.ruler.specs.declared.types.Place.{Place}
 use Rattle.ruler.specs.declared.types.Begun.{Begun}
-use Rattle.ruler.specs.Drifts.{drifts_from, place_of, begun_in, SoundPlace}
+use Rattle.ruler.specs.Drifts.{drifts_from, place_of, SoundPlace}
 use Rattle.measuring.specs.Host.{begun_words, drift_words, Next}
 
 -- ---- words
@@ -53,18 +52,18 @@ going_start r p buf place a e h =
     record { given = []; whole = ap (λ (x : Place). drifts_from r x (coming p).entries) (sym e); count = refl; fits = omega arith; same = refl; buffer = refl; small = a; at = h }
 
 module _ {r : Ruler} {es : List Entry} {buf out : List ℕ} {p : Planner} {place : Place} {n : ℕ} (g : Going r es buf out p place n) where
-  pub going_more : (b : Begun) (s : Place) (q : Planner) (out' : List ℕ) → Next r place p b s q → 5 ≤ length out - n * 5 → out' ≡ paste out (n * 5) (begun_words r.h (begun_in b)) 5 → Going r es buf out' q s (n + 1)
+  pub going_more : (b : Begun) (s : Place) (q : Planner) (out' : List ℕ) → Next r place p b s q → 5 ≤ length out - n * 5 → out' ≡ paste out (n * 5) (begun_words r.h b) 5 → Going r es buf out' q s (n + 1)
   going_more b s q out' h room e =
       let bs = g.given in
-      let ws = begun_words r.h (begun_in b) in
+      let ws = begun_words r.h b in
       let c = g.count in
       let m = g.same in
-      let len : length (bs ++ begun_in b ∷ []) ≡ length bs + 1 = length-append bs (begun_in b ∷ []) in
+      let len : length (bs ++ b ∷ []) ≡ length bs + 1 = length-append bs (b ∷ []) in
       let at : 5 * length bs ≡ n * 5 = omega arith in
-      let d : n * 5 + 5 ≡ 5 * length (bs ++ begun_in b ∷ []) = omega arith in
+      let d : n * 5 + 5 ≡ 5 * length (bs ++ b ∷ []) = omega arith in
       record {
-        given = bs ++ begun_in b ∷ [];
-        whole = g.whole ∙ ap (λ (l : List demand.Begun). bs ++ l) h.is ∙ sym (append_assoc bs (begun_in b ∷ []) (drifts_from r s (coming q).entries));
+        given = bs ++ b ∷ [];
+        whole = g.whole ∙ ap (λ (l : List demand.Begun). bs ++ l) h.is ∙ sym (append_assoc bs (b ∷ []) (drifts_from r s (coming q).entries));
         count = omega arith;
         fits = omega (arith, g.fits);
         same = ap length e ∙ length-paste out (n * 5) ws 5 (omega arith) (omega arith) ∙ m;
@@ -72,8 +71,8 @@ module _ {r : Ruler} {es : List Entry} {buf out : List ℕ} {p : Planner} {place
             e
             ∙ ap (λ (x : List ℕ). paste x (n * 5) ws 5) (g.buffer ∙ ap (λ (k : ℕ). drift_words r.h bs ++ drop k buf) at)
             ∙ paste_more (drift_words r.h bs) ws buf (n * 5) refl (words_long r.h bs ∙ at)
-            ∙ ap (λ (x : List ℕ). x ++ drop (n * 5 + 5) buf) (sym (words_more r.h bs (begun_in b)))
-            ∙ ap (λ (k : ℕ). drift_words r.h (bs ++ begun_in b ∷ []) ++ drop k buf) d;
+            ∙ ap (λ (x : List ℕ). x ++ drop (n * 5 + 5) buf) (sym (words_more r.h bs b))
+            ∙ ap (λ (k : ℕ). drift_words r.h (bs ++ b ∷ []) ++ drop k buf) d;
         small = h.rest.small;
         at = h.next;
       }

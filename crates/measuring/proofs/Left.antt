@@ -3,6 +3,7 @@
 use Rattle.std.proofs.Common.{◌≡◌, refl, sym, ap, ◌∙◌, Bool, true, false, cond, ◌&&◌, List, [], ◌∷◌, ◌++◌, ⊎_elim, ℕ, ◌*◌, ◌/◌, eqb, length, take, drop}
 use Rattle.std.proofs.Math.Seq.{take-nil}
 use borrow.Author.Tests.{eq-eqb, ne_eqb}
+use Rattle.measures.specs.Range.{counted}
 use Rattle.plan.specs.Request.{Request}
 use Rattle.plan.specs.Whole.{checked_out, plan_with, plan_of}
 use Rattle.plan.specs.Demand.{Drift, drift_of, strips_of, aheads, apt}
@@ -26,7 +27,7 @@ nothing_left q drift s e = rw (e, take-nil (length drift / 5), no_flag (apt q) (
 module _ (q : Request) (r : Ruler) (h : RulerIs q r) where
   drifts_are : drifts_from r (place_of r) (plan_of q).entries ≡ drifts_of q
   unfolding drifts_of
-  drifts_are = rw (eq-eqb q.opcode 9 h.opcode) (ap (λ (d : Drift). aheads d 0 (strips_of d) (plan_of q).entries) h.is)
+  drifts_are = rw (eq-eqb q.opcode 9 h.opcode, counted h.sound.count) (ap (λ (d : Drift). aheads d 0 (strips_of d) (plan_of q).entries) h.is)
 
   apt_is : apt_in r ≡ apt q
   unfolding apt

@@ -1,25 +1,20 @@
 -- What `visor_drift` leaves to the host, over the plan of the request that its words make: docs/SPECIFICATION.md, sections 2 and 11.
 -- Assumes nothing.
-use Rattle.std.specs.Prelude.{◌≡◌, cond, ◌&&◌, List, [], ◌∷◌, ◌++◌, ℕ, ◌*◌, ◌/◌, ◌<◌, eqb, length, take, drop}
-use Rattle.std.specs.Int.{w64}
-use Rattle.std.proofs.Common.{SFits}
+use Rattle.std.specs.Prelude.{◌≡◌, cond, ◌&&◌, List, [], ◌∷◌, ◌++◌, ℕ, ◌*◌, ◌/◌, ◌<◌, eqb, length, take, drop, Result, Ok, Err, Option, Some, None}
 use Rattle.signed.specs.Cast.{word}
-use Rattle.measures.specs.Range.{Within}
 use Rattle.plan.specs.declared.types.Entry.{Entry}
 use Rattle.plan.specs.Request.{Request}
 use Rattle.plan.specs.Demand as demand
 use Rattle.plan.specs.Demand.{drift_of, behind_of, ahead_of, apt}
 use Rattle.planner.specs.Planner.{Planner}
 use Rattle.planner.specs.Coming.{coming}
-use Rattle.planner.specs.Planner.{Sound}
 use Rattle.request.specs.Host.{host_request}
 use Rattle.small.specs.Small.{AllSmall}
 use Rattle.ruler.specs.declared.types.Ruler.{Ruler}
 use Rattle.ruler.specs.declared.types.Place.{Place}
 use Rattle.ruler.specs.declared.types.Begun.{Begun}
-use Rattle.ruler.specs.Drifts.{drifts_of, set_up, drifts_from, place_of, begun_in, SoundPlace}
-use Rattle.measuring.specs.declared.Moved.{Moved}
-use Rattle.measuring.specs.declared.Moved.TheVariants as moved
+use Rattle.ruler.specs.declared.types.Over.{Over}
+use Rattle.ruler.specs.Drifts.{drifts_of, set_up, drifts_from, place_of, SoundPlace}
 
 -- a rectangle's words: its first line, its strip, its distance, and the limits behind and ahead
 abbrev pub begun_words : (h : ℕ) → demand.Begun → List ℕ
@@ -57,21 +52,22 @@ host_drift object request drift told =
 
 -- a planner with fewer entries to come
 pub record Rest (p q : Planner) : Type 0 where
-  pub sound : Sound q
   pub small : AllSmall (coming q).entries
   pub fewer : length (coming q).entries < length (coming p).entries
 
 pub record Next (r : Ruler) (place : Place) (p : Planner) (b : Begun) (s : Place) (q : Planner) : Type 0 where
-  pub is : drifts_from r place (coming p).entries ≡ begun_in b ∷ drifts_from r s (coming q).entries
+  pub is : drifts_from r place (coming p).entries ≡ b ∷ drifts_from r s (coming q).entries
   pub next : SoundPlace r s
-  pub strip : Within 46 b.strip
-  pub distance : SFits w64 b.distance
   pub rest : Rest p q
 
-abbrev pub MovedIs : Ruler → Place → Planner → Moved → Type 0
-MovedIs r place p (moved.Measured b s q) = Next r place p b s q
-MovedIs r place p (moved.Passed q) = (drifts_from r place (coming p).entries ≡ drifts_from r place (coming q).entries) × Rest p q
-MovedIs r place p moved.Over = drifts_from r place (coming p).entries ≡ []
+-- what was measured of an entry, and the planner after it
+abbrev pub MeasuredIs : Ruler → Place → Planner → Option (Begun × Place) → Planner → Type 0
+MeasuredIs r place p (Some b) q = Next r place p b.0 b.1 q
+MeasuredIs r place p None q = (drifts_from r place (coming p).entries ≡ drifts_from r place (coming q).entries) × Rest p q
+
+abbrev pub MovedIs : Ruler → Place → Planner → Result (Option (Begun × Place) × Planner) Over → Type 0
+MovedIs r place p (Ok m) = MeasuredIs r place p m.0 m.1
+MovedIs r place p (Err o) = drifts_from r place (coming p).entries ≡ []
 
 abbrev pub fitting : Ruler → List Entry → (drift : List ℕ) → List demand.Begun
 fitting r es drift = take (length drift / 5) (drifts_from r (place_of r) es)

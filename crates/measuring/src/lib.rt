@@ -8,135 +8,91 @@
 #![tactic(auto)]
 
 ghost use Rattle.std.specs.Prelude.{◌≡◌, cond, [], ◌∷◌, ◌≤◌, length};
-ghost use Rattle.std.specs.Int.{w64};
-ghost use Rattle.std.proofs.Common.{SFits};
-ghost use Rattle.measures.specs.Range.{Within};
 ghost use Rattle.planner.specs.Coming.{coming};
 ghost use Rattle.request.specs.Host.{with_bytes};
 ghost use Rattle.small.specs.Small.{AllSmall};
-ghost use Rattle.ruler.specs.Drifts.{SoundRuler, SoundPlace, begun_in};
+ghost use Rattle.ruler.specs.Drifts.{SoundPlace};
 ghost use Rattle.measuring.specs.Host.{begun_words, MovedIs, FilledIs, drifted, measured_of, host_drift};
 
-use planner::{Given, Planner};
+use planner::Planner;
 use request::Request;
-use ruler::{Begun, Place, Ruler, Taken};
+use ruler::{Begun, Over, Place, Ruler};
 use signed::word_of;
 use words::put;
 
-const REQUEST: usize = 7;
-
 const TOLD: usize = 2;
 
-// A step of the planner: a rectangle that is measured, an entry that is passed over, or none to come. Three outcomes, as of `Taken`.
-#[derive(Clone, Copy)]
-pub(crate) enum Moved {
-    Measured(Begun, Place, Planner),
-    Passed(Planner),
-    Over,
-}
+// A step of the planner: what was measured of its entry, if it is a rectangle, and the planner after it; or no rectangle is to come.
+pub(crate) type Moved = Result<(Option<(Begun, Place)>, Planner), Over>;
 
-#[derive(Clone, Copy)]
-pub(crate) struct Told {
-    pub(crate) rectangles: u64,
-    pub(crate) apt: u64,
-}
-
-fn words_of(h: u64, b: Begun) -> [u64; 5]
-    requires { (h ≤ 65535) × ((Within 46 b.strip) × SFits w64 b.distance) }
-    ensures { result ≡ begun_words h (begun_in b) }
+fn words_of(r: Ruler, b: Begun) -> [u64; 5]
+    ensures { result ≡ begun_words r.h b }
 {
-    let behind = word_of(ruler::behind(h));
-    let ahead = word_of(ruler::ahead(h, b.strip));
+    let behind = word_of(ruler::behind(r.h));
+    let ahead = word_of(ruler::ahead(r.h, b.strip));
     [b.line, word_of(b.strip), word_of(b.distance), behind, ahead]
 }
 
 fn step(r: Ruler, place: Place, p: Planner) -> Moved
-    requires { (SoundRuler r) × ((SoundPlace r place) × AllSmall (coming p).entries) }
+    requires { (SoundPlace r place) × AllSmall (coming p).entries }
     ensures { MovedIs r place p result }
 {
     let s = p.step();
-    let rest = s.planner;
-    let given = s.given;
-    match given {
-        Given::Entry(entry) => match ruler::taken(r, place, entry) {
-            Taken::Is(b, next) => Moved::Measured(b, next, rest),
-            Taken::Passed => Moved::Passed(rest),
-            Taken::Over => Moved::Over,
-        },
-        Given::Refused(_, _) => Moved::Over,
-        Given::End(_) => Moved::Over,
-    }
+    let Ok(entry) = s.given else {
+        return Err(Over);
+    };
+    let measured = ruler::taken(r, place, entry)?;
+    Ok((measured, s.planner))
 }
 
-// The rectangles of a plan, until there is no room or none is to come; how many they are.
+// The rectangles of a plan, until there is no room or none is to come; how many they are. Over chunks of `drift` the entries that are passed over would need a loop of their own within.
 fn fill(r: Ruler, start: Planner, drift: &mut [u64]) -> usize
-    requires { (SoundRuler r) × AllSmall (coming start).entries }
+    requires { AllSmall (coming start).entries }
     ensures { FilledIs r (coming start).entries drift.old drift.new result }
 {
-    let h = r.h;
     let mut p = start;
     let mut place = ruler::place_of(r);
     let mut n: usize = 0;
     while drift.len() - n * 5 >= 5 {
-        match step(r, place, p) {
-            Moved::Measured(b, next, rest) => {
-                let words = words_of(h, b);
-                put(&mut *drift, n * 5, &words);
-                n = n + 1;
-                place = next;
-                p = rest;
-            }
-            Moved::Passed(rest) => {
-                p = rest;
-            }
-            Moved::Over => {
-                break;
-            }
+        let Ok((measured, rest)) = step(r, place, p) else {
+            break;
+        };
+        if let Some((b, next)) = measured {
+            let words = words_of(r, b);
+            put(&mut *drift, n * 5, &words);
+            n += 1;
+            place = next;
         }
+        p = rest;
     }
     n
 }
 
-fn measured(object: &[u8], q: Request, drift: &mut [u64]) -> Told
-    ensures { drifted 0 drift.new (result.rectangles ∷ result.apt ∷ []) ≡ measured_of (with_bytes object.now q) drift.old }
+// The rectangles of a request's plan, and the two words told: how many they are, and whether the limits are proved of them.
+fn measured(object: &[u8], q: Request, drift: &mut [u64]) -> [u64; 2]
+    ensures { drifted 0 drift.new result ≡ measured_of (with_bytes object.now q) drift.old }
 {
     match ruler::ruler_of(object, q) {
         Some(r) => {
             let p = starts::fresh(object, q);
             let n = fill(r, p, &mut *drift);
             let apt = u64::from(ruler::apt(r));
-            Told {
-                rectangles: n as u64,
-                apt,
-            }
+            [n as u64, apt]
         }
-        None => Told {
-            rectangles: 0,
-            apt: 0,
-        },
+        None => [0, 0],
     }
-}
-
-fn tell(told: &mut [u64], t: Told)
-    requires { length told.old ≡ 2 }
-    ensures { told.new ≡ t.rectangles ∷ t.apt ∷ [] }
-{
-    let words = [t.rectangles, t.apt];
-    put(&mut *told, 0, &words);
 }
 
 // Each rectangle of a scaled plan: its strip, and how far it lies from its exact position.
 pub fn visor_drift(object: &[u8], request: &[u64], drift: &mut [u64], told: &mut [u64]) -> u64
     ensures { drifted result drift.new told.new ≡ host_drift object.now request.now drift.old told.old }
 {
-    let Ok(request) = <&[u64; REQUEST]>::try_from(request) else {
+    let Ok(q) = Request::try_from(request) else {
         return 1;
     };
     if told.len() != TOLD {
         return 1;
     }
-    let q = request::from_words(request);
-    let t = measured(object, q, &mut *drift);
-    tell(&mut *told, t);
+    told.copy_from_slice(&measured(object, q, &mut *drift));
     0
 }

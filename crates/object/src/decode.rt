@@ -1,4 +1,4 @@
-// The object's fields out of its bytes, for pointers of up to 8 bytes: what stands after the pointer moves with its width.
+// The object's fields out of its bytes, for pointers of up to 8 bytes: what stands after the pointer moves with its width, which is a number of the field table and no const parameter, so that one decoder serves every width.
 ghost use Rattle.std.specs.Prelude.{◌≡◌, cond, ◌+◌, ◌≤◌, ◌<◌, ◌^◌, max, pos, length};
 ghost use Rattle.std.specs.Int.{w16, w32};
 ghost use Rattle.std.proofs.Common.{to_z};
@@ -9,23 +9,23 @@ use crate::reader::field_from;
 use crate::types::ObjBg;
 use measures::{Scale, ThirtySeconds};
 
-// One function for the three widths would need a trait from the width to its type.
+// A number of one, two or four bytes. One function for the three widths would need a trait from the width to its type.
 
-fn byte(s: &[u8], at: usize) -> u8
+pub fn byte(s: &[u8], at: usize) -> u8
     requires { at + 1 ≤ length s.now }
     ensures { result ≡ read s.now at 1 }
 {
     field_from(s, at, 1) as u8
 }
 
-fn half(s: &[u8], at: usize) -> u16
+pub fn half(s: &[u8], at: usize) -> u16
     requires { at + 2 ≤ length s.now }
     ensures { result ≡ read s.now at 2 }
 {
     field_from(s, at, 2) as u16
 }
 
-fn word(s: &[u8], at: usize) -> u32
+pub fn word(s: &[u8], at: usize) -> u32
     requires { at + 4 ≤ length s.now }
     ensures { result ≡ read s.now at 4 }
 {

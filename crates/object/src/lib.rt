@@ -5,6 +5,6 @@ mod decode;
 mod reader;
 mod types;
 
-pub use decode::decode_obj_bg;
+pub use decode::{byte, decode_obj_bg, half, word};
 pub use reader::{Reader, field_from};
 pub use types::{Background, ObjBg, Scissor, Verdict};

@@ -8,7 +8,7 @@ pub struct Reader<'a> {
     pub at: usize,
 }
 
-// The number in `n` bytes from a place.
+// The number in `n` bytes from a place: a field's width is data of the field table, so the bytes are a slice and no array, and `Held` says that they are there.
 fn big_endian(s: &[u8], at: usize, n: usize) -> u64
     requires { Held s.now at n }
     ensures { ReadIs s.now at n result }
@@ -42,7 +42,7 @@ impl<'a> Reader<'a> {
     }
 }
 
-// A field, by its place and its width: with plain parameters, so that callers need no walk.
+// A field, by its place and its width: the fields stand at fixed places, so a caller names the place and keeps no reader.
 pub fn field_from(s: &[u8], at: usize, n: usize) -> u64
     requires { Held s.now at n }
     ensures { ReadIs s.now at n result }

@@ -2,6 +2,7 @@
 use measures::{Quarters, Scale, ThirtySeconds};
 
 // A decoded background; fields outside its kind are 0.
+// What the checks leave of it stands in clauses: `PassedCopy` and `PassedScaled` speak of the scissor too, and `Usable` is a part of the second. A type for a checked background would hold the scissor, and be taken apart at every call. A field may have any value before the checks.
 #[derive(Clone, Copy)]
 pub struct ObjBg {
     pub image_x: ThirtySeconds,

@@ -14,7 +14,7 @@ use object::Verdict;
 use plan::{Clip, Entry, First, Scaled, Source, Walk};
 use walks::{drawn, image, load, next_pass, rect, tile0, tile7};
 
-// What is given before the next pass.
+// What is given before the next pass. It stands apart from `due_walk`, which is made only where the entry is not refused.
 fn due_entry(due: Due, p: Place) -> Entry
     requires { SoundAt (due_stage due) p }
     ensures { result ≡ due_entry due p }
@@ -42,7 +42,7 @@ fn due_walk(due: Due, p: Place) -> Walk
     }
 }
 
-// The entry of a turn; only a load may be refused.
+// The entry of a turn. Only a load may be refused, and then nothing comes after it: so this stands apart from `begun`, which makes what comes.
 fn turn_entry(turn: Turn, p: Place) -> Result<Entry, Refused>
     requires { SoundAt (stage_of turn) p }
     ensures { loaded_out result ≡ turn_out turn p }
@@ -93,7 +93,7 @@ fn whole_step(p: Place) -> ScaledNext
     Ok((entry, moved_on(p)))
 }
 
-// What comes next of a scaled plan. The stages of a turn meet in one call of `turn_step`, so that the compiler inlines it.
+// What comes next of a scaled plan. The stages are data, and no closures: a host keeps a planner as words, and there is no heap. Those of a turn meet in one call of `turn_step`, so that the compiler inlines it.
 pub fn scaled_next(stage: Stage, p: Place) -> ScaledNext
     requires { SoundAt stage p }
     ensures { Gave (coming_scaled stage p) (left_at stage p) result }
@@ -106,22 +106,18 @@ pub fn scaled_next(stage: Stage, p: Place) -> ScaledNext
             return Ok((tile0(p.scaled), Ok((Stage::Size, p))));
         }
         Stage::Whole => {
-            let w = p.walk;
-            let source = w.source;
-            let entry = image(p.scaled, source.pointer);
+            let entry = image(p.scaled, p.walk.source.pointer);
             return Ok((entry, Ok((Stage::WholeLoad, p))));
         }
         Stage::WholeLoad => {
             return whole_step(p);
         }
         Stage::Tile => {
-            let q = p.part;
-            let entry = tile7(p.scaled, q.destination);
+            let entry = tile7(p.scaled, p.part.destination);
             return Ok((entry, Ok((Stage::Image, p))));
         }
         Stage::Image => {
-            let q = p.part;
-            let entry = image(p.scaled, q.pointer);
+            let entry = image(p.scaled, p.part.pointer);
             return Ok((entry, Ok((Stage::Load, p))));
         }
         Stage::Load => Turn::Load,
@@ -142,15 +138,12 @@ pub fn scaled_start(z: Scaled, c: Clip, f: First) -> Reached
     let pointer = z.address.checked_add(offset).ok_or(Verdict::Address)?;
     let remain = less(z.source_rows as i64, f.image_row);
     let source = Source { pointer, remain };
-    let left = measures::texels(c.height) as i64;
-    let frame_y = measures::texels(c.y);
-    let t = f.t;
     let walk = Walk {
-        frame_y,
-        frame_remain: left,
+        frame_y: measures::texels(c.y),
+        frame_remain: measures::texels(c.height) as i64,
         count: f.count,
         slice_rows: f.slice_rows,
-        t,
+        t: f.t,
         source,
     };
     let part = Part {

@@ -68,7 +68,8 @@ pub struct End {
 // What one step of a planner answers: an entry, or the end.
 pub type Answer = Result<Entry, End>;
 
-// The facts on these numbers (`SoundCopy`, `SoundScaled`) stand in clauses and not in the types: the definitions make such records of any request, so that a model's value would be each record once more.
+// The facts on these numbers (`SoundCopy`, `SoundScaled`, `Filled`) stand in clauses and not in the types. An empty frame and strips that verdict 6 refuses do not meet them, and are made before they are tested;
+// and the definitions make such records of any request, so that a model's value would be each record once more.
 
 // What no strip of a copy plan changes; widths, heights, columns and rows count cells of 4 quarters.
 #[derive(Clone, Copy)]
@@ -126,7 +127,7 @@ pub struct Start {
     pub wrap: u64,
 }
 
-// What no pass of a scaled plan changes; frame_rows counts lines in 1,024ths.
+// What no pass of a scaled plan changes; frame_rows counts lines in 1,024ths. `split` and `bilerp` are numbers and no bools: they are added to counts of rows, or taken off them.
 #[derive(Clone, Copy)]
 pub struct Scaled {
     pub source_rows: u64,

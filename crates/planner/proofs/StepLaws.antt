@@ -1,8 +1,9 @@
 -- From one step of a course to one step of the planner: the counts and the bank go with the entry.
 -- Assumes nothing.
-use Rattle.std.specs.Prelude.{◌≡◌, refl, Ok, Err, List, [], ◌∷◌, ℕ, suc, ◌≤◌, ◌<◌, length, drop}
+use Rattle.std.specs.Prelude.{◌≡◌, refl, Ok, Err, Option, IfSome, List, [], ◌∷◌, ℕ, suc, ◌≤◌, ◌<◌, length, drop}
 use Rattle.std.proofs.Math.Path.{sym, ap}
 use Rattle.std.proofs.Common.{◌∙◌}
+use Rattle.std.specs.Option.{option_to_list}
 use native.Mathlib.Omega.{arith}
 use Rattle.object.specs.declared.types.Verdict.{Verdict}
 use Rattle.object.specs.declared.types.Verdict.TheVariants as verdict
@@ -32,10 +33,9 @@ use Rattle.words.proofs.CountsLaws.{counted_countable, counted_entries}
 use Rattle.planner.specs.declared.types.Course.{Course}
 use Rattle.planner.specs.declared.types.Course.TheVariants as course
 use Rattle.planner.specs.Planner.{Planner, planner_at, SoundCourse, left_course, Sound}
-use Rattle.planner.specs.declared.types.Given.{Given}
-use Rattle.planner.specs.declared.types.Given.TheVariants as given
+use Rattle.planner.specs.declared.types.Stop.{Stop}
 use Rattle.planner.specs.declared.types.Step.{Step}
-use Rattle.planner.specs.Coming.{coming_course, coming_from, coming, counts_next, answer_in, left_in, GivenIn, left_next, StepGives, StepIs, give_of, stop_of, refuse_of, course_of}
+use Rattle.planner.specs.Coming.{coming_course, coming_from, coming, counts_next, answer_in, left_in, left_next, StepGives, StepIs, give_of, stop_of, course_of}
 
 -- what is to come of a planner whose plan starts with e
 given_answer : (p : Plan) (n : Counts) (e : Entry) (q : Plan) → p ≡ cons e q → answer_of (coming_from p n).entries (coming_from p n).end ≡ Ok e
@@ -71,13 +71,13 @@ module _ (w w' : Course) (n : Counts) (e : Entry) (i : coming_course w ≡ cons 
         sound = record { course = s; counts = counted_countable n e h.counts (omega arith) a.line; few = omega arith };
       }
 
--- the end
-module _ (w : Course) (n : Counts) (left : List Entry) (v : Verdict) (i : coming_course w ≡ ended left v) where
+-- the end, and what a refused load has set
+module _ (w : Course) (n : Counts) (v : Verdict) (size : Option Entry) (i : coming_course w ≡ ended (option_to_list size) v) where
   stopped_answer : Err (end_with n v) ≡ answer_of (coming_from (coming_course w) n).entries (coming_from (coming_course w) n).end
   unfolding counted_all
   stopped_answer = rw i
 
-  stopped_left : left ≡ left_next (coming_from (coming_course w) n).entries (coming_from (coming_course w) n).left
+  stopped_left : option_to_list size ≡ left_next (coming_from (coming_course w) n).entries (coming_from (coming_course w) n).left
   stopped_left = rw i
 
   stopped_rest : coming_from (ended [] v) n ≡ next_of (coming_from (coming_course w) n).entries (coming_from (coming_course w) n).left (coming_from (coming_course w) n).end
@@ -87,25 +87,19 @@ module _ (w : Course) (n : Counts) (left : List Entry) (v : Verdict) (i : coming
   stopped_counts : n ≡ counts_next (coming_from (coming_course w) n).entries n
   stopped_counts = rw i
 
-  step_ended : (g : Given) → answer_in g ≡ Err (end_with n v) → left_in g ≡ left → GivenIn g → Sound (planner_at w n) → StepGives (planner_at w n) (record { planner = planner_at (course.Over v) n; given = g })
+  pub step_stopped : IfSome size Narrow → Sound (planner_at w n) → StepGives (planner_at w n) (stop_of n v size)
   unfolding coming
-  step_ended g a l t h =
+  step_stopped t h =
       let f = h.few in
       record {
-        answer = a ∙ stopped_answer;
-        left = l ∙ stopped_left;
+        answer = stopped_answer;
+        left = stopped_left;
         ranges = t;
         rest = stopped_rest;
         counts = stopped_counts;
         over = λ h. ap (λ (q : Plan). course.Over q.verdict) (sym i);
         sound = record { course = tt; counts = h.counts; few = omega arith };
       }
-
-pub step_stopped : (w : Course) (n : Counts) (v : Verdict) → coming_course w ≡ ended [] v → Sound (planner_at w n) → StepGives (planner_at w n) (stop_of n v)
-step_stopped w n v i h = step_ended w n [] v i (given.End (end_with n v)) refl refl tt h
-
-pub step_refused : (w : Course) (n : Counts) (s : Entry) → coming_course w ≡ ended (s ∷ []) verdict.Address → Narrow s → Sound (planner_at w n) → StepGives (planner_at w n) (refuse_of n s)
-step_refused w n s i t h = step_ended w n (s ∷ []) verdict.Address i (given.Refused s (end_with n verdict.Address)) refl refl t h
 
 -- where no entry is to come, the end has the counts so far
 pub counts_at_end : (p : Planner) → (coming p).entries ≡ [] → (coming p).end ≡ end_with p.counts (coming p).end.verdict
@@ -163,28 +157,28 @@ ended_there [] x e i = let k : x ≡ e = cc in (refl, sym k)
 ended_there (y ∷ es) x e i = let z : ◌≡◌ {A = ℕ} 0 1 = cc in absurd (omega arith)
 
 module _ (p : Planner) (s : Step) (i : StepGives p s) where
-  pub gave_entry : (e : Entry) → s.given ≡ given.Entry e → (coming p).entries ≡ e ∷ drop 1 (coming p).entries
+  pub gave_entry : (e : Entry) → s.given ≡ Ok e → (coming p).entries ≡ e ∷ drop 1 (coming p).entries
   gave_entry e g = came (coming p).entries (coming p).end e (sym i.answer ∙ ap answer_in g)
 
   -- the planner has the rest to come
-  pub gave_rest : (e : Entry) → s.given ≡ given.Entry e → coming s.planner ≡ record { entries = drop 1 (coming p).entries; left = (coming p).left; end = (coming p).end }
+  pub gave_rest : (e : Entry) → s.given ≡ Ok e → coming s.planner ≡ record { entries = drop 1 (coming p).entries; left = (coming p).left; end = (coming p).end }
   gave_rest e g = i.rest ∙ ap (λ (es : List Entry). next_of es (coming p).left (coming p).end) (gave_entry e g)
 
   -- one entry less is to come
-  pub gave_fewer : (e : Entry) → s.given ≡ given.Entry e → length (coming s.planner).entries < length (coming p).entries
+  pub gave_fewer : (e : Entry) → s.given ≡ Ok e → length (coming s.planner).entries < length (coming p).entries
   gave_fewer e g = omega (arith, ap (λ (c : Coming). length c.entries) (gave_rest e g), ap length (gave_entry e g), longer e (drop 1 (coming p).entries))
     where
       longer : (e : Entry) (es : List Entry) → length (e ∷ es) ≡ suc (length es)
       longer e es = refl
 
   -- the end: no entries, the end itself, and the sizes that are set
-  pub gave_end : (g : Given) → s.given ≡ g → (x : End) → answer_in g ≡ Err x → ((coming p).entries ≡ []) × ((x ≡ (coming p).end) × ((coming p).left ≡ left_in g))
-  gave_end g k x a =
-      let t = ended_there (coming p).entries (coming p).end x (sym i.answer ∙ ap answer_in k ∙ a) in
-      (t.0, (t.1, ap (λ (es : List Entry). left_next es (coming p).left) (sym t.0) ∙ sym i.left ∙ ap left_in k))
+  pub gave_end : (x : Stop) → s.given ≡ Err x → ((coming p).entries ≡ []) × ((x.end ≡ (coming p).end) × ((coming p).left ≡ left_in (Err x)))
+  gave_end x g =
+      let t = ended_there (coming p).entries (coming p).end x.end (sym i.answer ∙ ap answer_in g) in
+      (t.0, (t.1, ap (λ (es : List Entry). left_next es (coming p).left) (sym t.0) ∙ sym i.left ∙ ap left_in g))
 
   -- a step with a bank
-  pub with_entry : (b : Bank) (e : Entry) → s.given ≡ given.Entry e → (b' : Bank) → b' ≡ bank_step b e → StepIs p b (record { planner = s.planner; bank = b'; answer = Ok e })
+  pub with_entry : (b : Bank) (e : Entry) → s.given ≡ Ok e → (b' : Bank) → b' ≡ bank_step b e → StepIs p b (record { planner = s.planner; bank = b'; answer = Ok e })
   with_entry b e g b' k =
       record {
         answer = sym (ap answer_in g) ∙ i.answer;
@@ -194,11 +188,11 @@ module _ (p : Planner) (s : Step) (i : StepGives p s) where
         sound = i.sound;
       }
 
-  pub with_end : (b : Bank) (g : Given) → s.given ≡ g → (x : End) → answer_in g ≡ Err x → (b' : Bank) → b' ≡ bank_after b (left_in g) → StepIs p b (record { planner = s.planner; bank = b'; answer = Err x })
-  with_end b g k x a b' j =
-      let t = gave_end g k x a in
+  pub with_end : (b : Bank) (x : Stop) → s.given ≡ Err x → (b' : Bank) → b' ≡ bank_after b (left_in (Err x)) → StepIs p b (record { planner = s.planner; bank = b'; answer = Err x.end })
+  with_end b x g b' j =
+      let t = gave_end x g in
       record {
-        answer = sym a ∙ sym (ap answer_in k) ∙ i.answer;
+        answer = sym (ap answer_in g) ∙ i.answer;
         rest = i.rest;
         bank = j ∙ ap (bank_after b) (sym t.1.1) ∙ ap (λ (es : List Entry). bank_next es (coming p).left b) (sym t.0);
         counts = i.counts;

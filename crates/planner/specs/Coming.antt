@@ -1,10 +1,10 @@
 -- What a planner has still to come: the rest of its plan, and the end with the counts so far. A step's promise is that it answers the first of that and leaves the rest.
 -- Assumes nothing.
-use Rattle.std.specs.Prelude.{◌≡◌, Ok, Err, List, [], ◌∷◌, ℕ, ◌+◌, ◌^◌, ◌≤◌}
+use Rattle.std.specs.Prelude.{◌≡◌, Result, Ok, Err, Option, IfSome, List, [], ◌∷◌, ℕ, ◌≤◌}
+use Rattle.std.specs.Option.{option_to_list}
 use Rattle.object.specs.declared.types.ObjBg.{ObjBg}
 use Rattle.object.specs.declared.types.Scissor.{Scissor}
 use Rattle.object.specs.declared.types.Verdict.{Verdict}
-use Rattle.object.specs.declared.types.Verdict.TheVariants as verdict
 use Rattle.tile.specs.declared.bank.Bank.{Bank}
 use Rattle.plan.specs.declared.types.Entry.{Entry}
 use Rattle.plan.specs.Steps.{Answer}
@@ -23,8 +23,7 @@ use Rattle.words.specs.Counts.{zero_counts, counted_of, counted_all, end_with}
 use Rattle.planner.specs.declared.types.Course.{Course}
 use Rattle.planner.specs.declared.types.Course.TheVariants as course
 use Rattle.planner.specs.Planner.{Planner, SoundCourse, left_course, Sound}
-use Rattle.planner.specs.declared.types.Given.{Given}
-use Rattle.planner.specs.declared.types.Given.TheVariants as given
+use Rattle.planner.specs.declared.types.Stop.{Stop}
 use Rattle.planner.specs.declared.types.Step.{Step}
 use Rattle.planner.specs.declared.types.Stepped.{Stepped}
 
@@ -46,22 +45,23 @@ abbrev pub counts_next : List Entry → Counts → Counts
 counts_next [] n = n
 counts_next (e ∷ es) n = counted_of n e
 
--- what a step gives is an answer, and the sizes that a refused load has set
+-- what a step gives: an entry, or why there is none
+abbrev pub Given : Type 0
+Given = Result Entry Stop
+
+-- it is an answer, and the sizes that a refused load has set
 abbrev pub answer_in : Given → Answer
-answer_in (given.Entry e) = Ok e
-answer_in (given.Refused s x) = Err x
-answer_in (given.End x) = Err x
+answer_in (Ok e) = Ok e
+answer_in (Err s) = Err s.end
 
 abbrev pub left_in : Given → List Entry
-left_in (given.Entry e) = []
-left_in (given.Refused s x) = s ∷ []
-left_in (given.End x) = []
+left_in (Ok e) = []
+left_in (Err s) = option_to_list s.size
 
 -- an entry's numbers have their ranges; what a tile keeps of a size fits the tile's fields
 abbrev pub GivenIn : Given → Type 0
-GivenIn (given.Entry e) = EntryIn e
-GivenIn (given.Refused s x) = Narrow s
-GivenIn (given.End x) = Unit {0}
+GivenIn (Ok e) = EntryIn e
+GivenIn (Err s) = IfSome s.size Narrow
 
 -- what the refused load of a plan has set shows at its end
 abbrev pub left_next : List Entry → List Entry → List Entry
@@ -86,15 +86,12 @@ pub record StepIs (p : Planner) (b : Bank) (r : Stepped) : Type 0 where
   pub counts : r.planner.counts ≡ counts_next (coming p).entries p.counts
   pub sound : Sound r.planner
 
--- an entry is given, or the end
+-- an entry is given, or the end with what a refused load has set
 abbrev pub give_of : Course → Counts → Entry → Step
-give_of w n e = record { planner = record { course = w; counts = counted_of n e }; given = given.Entry e }
+give_of w n e = record { planner = record { course = w; counts = counted_of n e }; given = Ok e }
 
-abbrev pub stop_of : Counts → Verdict → Step
-stop_of n v = record { planner = record { course = course.Over v; counts = n }; given = given.End (end_with n v) }
-
-abbrev pub refuse_of : Counts → Entry → Step
-refuse_of n s = record { planner = record { course = course.Over verdict.Address; counts = n }; given = given.Refused s (end_with n verdict.Address) }
+abbrev pub stop_of : Counts → Verdict → Option Entry → Step
+stop_of n v size = record { planner = record { course = course.Over v; counts = n }; given = Err (record { size = size; end = end_with n v }) }
 
 abbrev pub course_of : Reached → Course
 course_of (Ok q) = course.Scaled q.0 q.1

@@ -4,4 +4,4 @@
 mod step;
 mod types;
 
-pub use types::{Course, Given, Planner, Step, Stepped};
+pub use types::{Course, Given, Planner, Step, Stepped, Stop};

@@ -3,9 +3,9 @@ ghost use Rattle.std.specs.Prelude.{◌≡◌};
 ghost use Rattle.plan.specs.Sound.{EntryIn};
 ghost use Rattle.words.specs.Counts.{Countable};
 ghost use Rattle.planner.specs.Planner.{Sound};
-ghost use Rattle.planner.specs.Coming.{StepGives, StepIs, give_of, stop_of, refuse_of};
+ghost use Rattle.planner.specs.Coming.{StepGives, StepIs, give_of, stop_of};
 
-use crate::types::{Course, Given, Planner, Step, Stepped};
+use crate::types::{Course, Planner, Step, Stepped, Stop};
 use copy::CopyEnd;
 use loads::Refused;
 use object::Verdict;
@@ -20,33 +20,21 @@ fn give(course: Course, n: Counts, entry: Entry) -> Step
 {
     let counts = words::counted(n, entry);
     let planner = Planner { course, counts };
-    let given = Given::Entry(entry);
+    let given = Ok(entry);
     Step { planner, given }
 }
 
-fn stop(n: Counts, verdict: Verdict) -> Step
-    requires { Sound (stop_of n verdict).planner }
-    ensures { result ≡ stop_of n verdict }
+// The end; where a load is refused, its tile's size is set before it.
+fn stop(n: Counts, verdict: Verdict, size: Option<Entry>) -> Step
+    requires { Sound (stop_of n verdict size).planner }
+    ensures { result ≡ stop_of n verdict size }
 {
     let planner = Planner {
         course: Course::Over(verdict),
         counts: n,
     };
-    let given = Given::End(words::end_of(n, verdict));
-    Step { planner, given }
-}
-
-// Verdict 9 at a load, which has set its tile's size.
-fn refuse(n: Counts, size: Entry) -> Step
-    requires { Sound (refuse_of n size).planner }
-    ensures { result ≡ refuse_of n size }
-{
-    let verdict = Verdict::Address;
-    let planner = Planner {
-        course: Course::Over(verdict),
-        counts: n,
-    };
-    let given = Given::Refused(size, words::end_of(n, verdict));
+    let end = words::end_of(n, verdict);
+    let given = Err(Stop { size, end });
     Step { planner, given }
 }
 
@@ -56,9 +44,9 @@ fn copy_step(stage: copy::Stage, place: copy::Place, n: Counts) -> Step
 {
     match copy::copy_next(stage, place) {
         Ok((entry, s, p)) => give(Course::Copy(s, p), n, entry),
-        Err(CopyEnd::TooBig) => stop(n, Verdict::TooBig),
-        Err(CopyEnd::Overflow(size)) => refuse(n, size),
-        Err(CopyEnd::Finished) => stop(n, Verdict::Finished),
+        Err(CopyEnd::TooBig) => stop(n, Verdict::TooBig, None),
+        Err(CopyEnd::Overflow(size)) => stop(n, Verdict::Address, Some(size)),
+        Err(CopyEnd::Finished) => stop(n, Verdict::Finished, None),
     }
 }
 
@@ -70,7 +58,7 @@ fn scaled_step(stage: loads::Stage, place: loads::Place, n: Counts) -> Step
         // One arm for each answer of a pass: a course for both, or a match within the arm, would be made in memory at every step.
         Ok((entry, Ok((stage, place)))) => give(Course::Scaled(stage, place), n, entry),
         Ok((entry, Err(v))) => give(Course::Over(v), n, entry),
-        Err(Refused(size)) => refuse(n, size),
+        Err(Refused(size)) => stop(n, Verdict::Address, Some(size)),
     }
 }
 
@@ -83,7 +71,7 @@ impl Planner {
         match course {
             Course::Copy(stage, place) => copy_step(stage, place, self.counts),
             Course::Scaled(stage, place) => scaled_step(stage, place, self.counts),
-            Course::Over(v) => stop(self.counts, v),
+            Course::Over(v) => stop(self.counts, v, None),
         }
     }
 
@@ -93,9 +81,8 @@ impl Planner {
     {
         let s = self.step();
         let planner = s.planner;
-        let given = s.given;
-        match given {
-            Given::Entry(entry) => {
+        match s.given {
+            Ok(entry) => {
                 let after = words::bank_after(bank, entry);
                 Stepped {
                     planner,
@@ -103,19 +90,17 @@ impl Planner {
                     answer: Ok(entry),
                 }
             }
-            Given::Refused(size, end) => {
-                let sized = words::bank_after(bank, size);
+            Err(stop) => {
+                let sized = match stop.size {
+                    Some(size) => words::bank_after(bank, size),
+                    None => bank,
+                };
                 Stepped {
                     planner,
                     bank: sized,
-                    answer: Err(end),
+                    answer: Err(stop.end),
                 }
             }
-            Given::End(end) => Stepped {
-                planner,
-                bank,
-                answer: Err(end),
-            },
         }
     }
 }

@@ -32,14 +32,15 @@ impl Model for Planner {
     ghost inverse = { λ n. record { course = n.course; counts = n.counts } };
 }
 
-// What a step gives: an entry, or the end. A load that is refused has set its tile's size, which is no entry, before the end.
-// Three outcomes: a Result's error would be an end with a size or without, and every reader would take it apart again.
+// Why a step gives no entry: the end, and what a refused load has set before it, a tile's size that is no entry. In this order, since with the end first a run took some hundredths longer.
 #[derive(Clone, Copy)]
-pub enum Given {
-    Entry(Entry),
-    Refused(Entry, End),
-    End(End),
+pub struct Stop {
+    pub size: Option<Entry>,
+    pub end: End,
 }
+
+// What a step gives: an entry, or why there is none.
+pub type Given = Result<Entry, Stop>;
 
 #[derive(Clone, Copy)]
 pub struct Step {

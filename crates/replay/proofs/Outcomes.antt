@@ -24,7 +24,7 @@ use Rattle.words.specs.Eleven.{eleven_each}
 use Rattle.giving.specs.Host.{run_words}
 use Rattle.digest.specs.Fnv.{digest_of}
 use Rattle.replay.specs.declared.record.Replayed.{Replayed}
-use Rattle.replay.specs.Outcome.{outcome_of, words_in}
+use Rattle.replay.specs.Outcome.{outcome_of, words_left, words_in}
 use Rattle.replay.specs.Steps.{replayed_of}
 
 few : (t : Bool) (n : ℕ) (p : Plan) → ltb (n / 11) (length p.entries) ≡ t → 11 * length (cond t (record { entries = take (n / 11) p.entries; left = []; verdict = verdict.Full }) p).entries ≤ n
@@ -54,6 +54,10 @@ module _ (p : Plan) (buf ws : List ℕ) (end : End) (e : end ≡ (run_words p bu
   unfolding outcome_of run_words
   outcome_is out after d g o a i j =
       λ n. record { end = e n; entries = (i ∙ ap digest_of (standing out o)) n; bank = (j ∙ ap digest_of a) n }
+
+  pub left_is : (after : List ℕ) → after ≡ (run_words p buf ws).bank → after ≡ words_left p (length buf) ws
+  unfolding run_words
+  left_is after a = a
 
 -- ---- the words of a file
 

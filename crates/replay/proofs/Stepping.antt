@@ -2,8 +2,8 @@
 -- Assumes nothing.
 use mathlib.Core.Path.{◌≡◌, refl, sym, ap, subst, ◌∙◌}
 use mathlib.Core.List.{List, [], ◌∷◌, ◌++◌, append_assoc, append-nil}
-use Rattle.std.specs.Prelude.{Option, Some, None, Ok}
-use Prim.Native.Nat.{ℕ, zero, suc, ◌+◌, ◌-◌, ◌*◌, ◌/◌, ◌<◌, ◌≤◌}
+use Rattle.std.specs.Prelude.{Option, Some, None, Ok, Err}
+use Prim.Native.Nat.{ℕ, zero, suc, ◌+◌, ◌-◌, ◌/◌, ◌<◌, ◌≤◌}
 use native.Mathlib.Numerals.{add-one}
 use native.Mathlib.Omega.{arith}
 use borrow.Author.Tests.{lt-ltb, le-ltb}
@@ -19,24 +19,20 @@ use Rattle.plan.specs.Out.{Plan}
 use Rattle.plan.specs.Run.{entry_words, plan_words, bank_step, bank_after, end_of, cut_at}
 use Rattle.plan.specs.Sound.{Narrow}
 use Rattle.plan.specs.Steps.{Coming, coming_of, answers, bank_to, next_of, answer_of, bank_next}
-use Rattle.giving.specs.Host.{bank_numbers, bank_from, words_after, run_words}
+use Rattle.giving.specs.Host.{bank_numbers, bank_from, words_after}
 use Rattle.giving.proofs.HostLaws.{words_after_lem}
 use Rattle.digest.specs.Fnv.{basis, digest_from, digest_of, word_into}
 use Rattle.planner.specs.Planner.{Planner}
 use Rattle.planner.specs.declared.types.Step.{Step}
 use Rattle.planner.specs.declared.types.Stepped.{Stepped}
-use Rattle.planner.specs.declared.types.Given.{Given}
-use Rattle.planner.specs.declared.types.Given.TheVariants as given
-use Rattle.planner.specs.Coming.{StepGives, StepIs, coming, answer_in, GivenIn}
-use Rattle.planner.specs.Planner.{Sound}
+use Rattle.planner.specs.Coming.{StepGives, StepIs, coming, Given, answer_in, GivenIn}
 use Rattle.replay.specs.declared.outcome.Outcome.{Outcome}
 use Rattle.replay.specs.declared.steps.Digests.{Digests}
-use Rattle.replay.specs.Outcome.{outcome_of}
+use Rattle.replay.specs.Outcome.{outcome_of, words_left}
 use Rattle.banks.specs.Narrows.{AllNarrow}
 use Rattle.replay.specs.Passed.{Passed}
 use Rattle.replay.specs.Steps.{answer_words, answers_words, stepped_from, stepped_of, ends_in, mixed_of, replayed_of}
 use Rattle.banks.proofs.Banks.{BankFits, bank_back, after_fits}
-use Rattle.replay.proofs.Outcomes.{standing}
 
 -- words after words
 digest_append : (xs ys : List ℕ) (h : ℕ) → digest_from h (xs ++ ys) ≡ digest_from (digest_from h xs) ys
@@ -127,9 +123,8 @@ narrow_more (e ∷ es) x h n = (h.0, narrow_more es x h.1 n)
 
 -- the entry that is given is narrow
 given_narrow : (g : Given) (x : Entry) → answer_in g ≡ Ok x → GivenIn g → Narrow x
-given_narrow (given.Entry e) x i h = let k : e ≡ x = cc in subst Narrow k h.narrow
-given_narrow (given.Refused s y) x i h = let z : ◌≡◌ {A = ℕ} 0 1 = cc in absurd (omega arith)
-given_narrow (given.End y) x i h = let z : ◌≡◌ {A = ℕ} 0 1 = cc in absurd (omega arith)
+given_narrow (Ok e) x i h = let k : e ≡ x = cc in subst Narrow k h.narrow
+given_narrow (Err s) x i h = cc
 
 pub passed_start : (p : Planner) → Passed 0 (coming p) p
 passed_start p = record { rest = refl; narrow = tt }
@@ -172,29 +167,28 @@ joined m p b h = λ i.
     }
 
 -- a run into a buffer that is too short for the plan
-module _ (p : Plan) (buf : List ℕ) (short : length buf / 11 < length p.entries) where
+module _ (p : Plan) (chunk : ℕ) (short : chunk / 11 < length p.entries) where
   abbrev m : ℕ
-  m = length buf / 11
+  m = chunk / 11
 
-  cut_is : cut_at (length buf) p ≡ record { entries = take m p.entries; left = []; verdict = verdict.Full }
+  cut_is : cut_at chunk p ≡ record { entries = take m p.entries; left = []; verdict = verdict.Full }
   unfolding cut_at
   cut_is = rw (lt-ltb m (length p.entries) short)
 
-  module _ (b : Bank) (fits : BankFits b) (ws : List ℕ) (w : ws ≡ bank_numbers b) (end : End) (e : end ≡ (run_words p buf ws).end) where
-    written : end.entries ≡ m
-    unfolding run_words end_of
-    written = ap (λ (x : End). x.entries) e ∙ ap (λ (x : Plan). length x.entries) cut_is ∙ length-take-le m p.entries (omega arith)
+  module _ (b : Bank) (fits : BankFits b) (ws : List ℕ) (w : ws ≡ bank_numbers b) (run : Outcome) (o : run ≡ outcome_of p chunk ws) where
+    written : run.end.entries ≡ m
+    unfolding outcome_of end_of
+    written = ap (λ (x : Outcome). x.end.entries) o ∙ ap (λ (x : Plan). length x.entries) cut_is ∙ length-take-le m p.entries (omega arith)
 
-    pub passable : end.entries ≤ length p.entries
+    pub passable : run.end.entries ≤ length p.entries
     passable = omega (arith, written, short)
 
-    pub mixed_is : (after out : List ℕ) → after ≡ (run_words p buf ws).bank → out ≡ (run_words p buf ws).buffer → (g : ℕ) → g ≡ digest_of (take (11 * end.entries) out) → (q : Planner) → Passed end.entries (coming_of p) q
-        → (r : Digests) → r ≡ stepped_from g (coming q) (bank_from after) → r ≡ stepped_of p b
-    unfolding run_words
-    mixed_is after out a o g d q h r s =
+    pub mixed_is : (after : List ℕ) → after ≡ words_left p chunk ws → (q : Planner) → Passed run.end.entries (coming_of p) q → (r : Digests) → r ≡ stepped_from run.entries (coming q) (bank_from after) → r ≡ stepped_of p b
+    unfolding outcome_of
+    mixed_is after a q h r s =
         let es = take m p.entries in
         let n = rw written at h in
-        let standing_is : g ≡ digest_of (plan_words es) = d ∙ ap digest_of (standing p buf ws end e out o ∙ ap (λ (x : Plan). plan_words x.entries) cut_is) in
+        let standing_is : run.entries ≡ digest_of (plan_words es) = ap (λ (x : Outcome). x.entries) o ∙ ap (λ (x : Plan). digest_of (plan_words x.entries)) cut_is in
         let after_is : after ≡ bank_numbers (bank_after b es) = a ∙ ap (λ (x : Plan). words_after ws (x.entries ++ x.left)) cut_is ∙ ap (words_after ws) (append-nil es) ∙ ap (λ (x : List ℕ). words_after x es) w ∙ words_after_lem es b fits.eight in
         let bank_is : bank_from after ≡ bank_after b es = ap bank_from after_is ∙ bank_back (bank_after b es) (after_fits es b fits n.narrow) in
         s ∙ rw (standing_is, n.rest, bank_is) (joined m p b (omega (arith, short)))

@@ -1,4 +1,4 @@
-// Why there are no answers, or not all of them.
+// Why there are no answers, or not all of them. bgplan has an enum of its own: each names its program's streams, and one for both would name streams that a program does not have.
 use std::{fmt, io};
 
 #[derive(Clone, Copy)]

@@ -9,12 +9,11 @@ ghost use Rattle.replay.specs.Outcome.{words_in};
 ghost use Rattle.replay.specs.Steps.{replayed_of};
 
 use crate::record::{Replayed, run_and_step};
-use object::{Scissor, field_from};
+use object::field_from;
 use request::Request;
 
-// A bank's words, eight bytes each.
-pub(crate) fn bank_of(bytes: &[u8]) -> [u64; 136]
-    requires { length bytes.now ≡ 1088 }
+// A bank's words, eight bytes each, read by place as every field is: over chunks, the library's `from_be_bytes` would need a law to the definition `read`.
+pub(crate) fn bank_of(bytes: &[u8; 1088]) -> [u64; 136]
     ensures { result ≡ words_in 136 bytes.now }
 {
     let mut numbers = [0u64; 136];
@@ -33,30 +32,14 @@ fn at_most(s: &[u8], at: usize, n: usize, most: usize) -> usize
 }
 
 // What a record asks besides its object. It is longer than a case, so the case is never short.
-fn asked(bytes: &[u8]) -> Request
-    requires { length bytes.now ≡ 64 }
+fn asked(bytes: &[u8; 64]) -> Request
     ensures { (n : ℕ) → with_bytes (take n bytes.now) result ≡ request_at n bytes.now }
 {
-    let Some(q) = request::from_bytes(bytes) else {
-        let scissor = Scissor {
-            ulx: 0,
-            uly: 0,
-            lrx: 0,
-            lry: 0,
-        };
-        return Request {
-            opcode: 0,
-            scissor,
-            mode: 0,
-            address: 0,
-        };
-    };
-    q
+    request::from_bytes(bytes).unwrap()
 }
 
 // A case, how many of the object's bytes the planner gets, and the words of its buffer; the chunk has these modulo 121.
-pub(crate) fn record_replayed(bytes: &[u8], stored: [u64; 136]) -> Replayed
-    requires { length bytes.now ≡ 64 }
+pub(crate) fn record_replayed(bytes: &[u8; 64], stored: [u64; 136]) -> Replayed
     ensures { result ≡ replayed_of (plan_of (request_at (min 40 (read bytes.now 61 1)) bytes.now)) (min 2816 (read bytes.now 62 2)) (min 2816 (read bytes.now 62 2) % 121) (bank_from stored) }
 {
     let count = at_most(bytes, 61, 1, 40);

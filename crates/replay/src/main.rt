@@ -25,7 +25,7 @@ fn bank(rt: &impl Files) -> io::Result<[u64; 136]> {
 fn replay(rt: &(impl Files + Alloc + Print)) -> Result<(), Failure> {
     let bank = bank(rt).map_err(Failure::Bank)?;
     let records = fs::read(rt, "records").map_err(Failure::Records)?;
-    for record in records.chunks_exact(64) {
+    for record in records.as_chunks::<64>().0 {
         rt.println(record_replayed(record, bank))
             .map_err(Failure::Output)?;
     }

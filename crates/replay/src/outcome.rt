@@ -2,12 +2,13 @@
 ghost use Rattle.std.specs.Prelude.{◌≡◌, length};
 ghost use Rattle.plan.specs.Whole.{plan_of};
 ghost use Rattle.request.specs.Host.{with_bytes};
-ghost use Rattle.replay.specs.Outcome.{outcome_of};
+ghost use Rattle.replay.specs.Outcome.{outcome_of, words_left};
 
 use digest::digest;
 use plan::End;
 use request::Request;
 
+// The first digest is that of a plan's words and not of answers, so these two are no `Digests`.
 #[derive(Clone, Copy)]
 pub struct Outcome {
     pub end: End,
@@ -17,7 +18,8 @@ pub struct Outcome {
 
 // Whatever stood in the buffer.
 pub(crate) fn run_into(object: &[u8], q: Request, bank: &mut [u64], plan: &mut [u64]) -> Outcome
-    ensures { result ≡ outcome_of (plan_of (with_bytes object.now q)) (length plan.old) bank.old }
+    ensures value { result ≡ outcome_of (plan_of (with_bytes object.now q)) (length plan.old) bank.old }
+    ensures bank { bank.new ≡ words_left (plan_of (with_bytes object.now q)) (length plan.old) bank.old }
 {
     let end = runs::run(object, q, bank, plan);
     let n = 11 * end.entries as usize;

@@ -8,6 +8,7 @@ ghost use Rattle.request.specs.Host.{with_bytes};
 ghost use Rattle.replay.specs.Steps.{answer_words, stepped_from, stepped_of};
 ghost use Rattle.replay.specs.Passed.{Passed};
 
+use crate::outcome::run_into;
 use banks::{bank_from, words_of};
 use digest::{BASIS, digest, digest_from};
 use plan::Answer;
@@ -30,13 +31,7 @@ fn answer_into(hash: u64, a: Answer) -> u64
             digest_from(hash, &words)
         }
         Err(end) => {
-            let verdict = end.verdict;
-            let numbers = [
-                checks::number(verdict),
-                end.entries,
-                end.rectangles,
-                end.words,
-            ];
+            let numbers = giving::end_numbers(end);
             digest_from(hash, &numbers)
         }
     }
@@ -85,15 +80,12 @@ fn pass_over(start: Planner, n: u64) -> Planner
 }
 
 // A run into a chunk that is too short for the plan, then steps with the bank that the run left.
-pub(crate) fn mixed(object: &[u8], q: Request, stored: &[u64], chunk: &mut [u64]) -> Digests
-    requires { (length stored.now ≡ 136) × (length chunk.old / 11 < length (plan_of (with_bytes object.now q)).entries) }
+pub(crate) fn mixed(object: &[u8], q: Request, stored: &[u64; 136], chunk: &mut [u64]) -> Digests
+    requires { length chunk.old / 11 < length (plan_of (with_bytes object.now q)).entries }
     ensures { result ≡ stepped_of (plan_of (with_bytes object.now q)) (bank_from stored.now) }
 {
     let mut words = words_of(bank_from(stored));
-    let end = runs::run(object, q, &mut words, chunk);
-    let n = 11 * end.entries as usize;
-    let before = digest(&chunk[..n]);
-    let p = starts::fresh(object, q);
-    let rest = pass_over(p, end.entries);
-    steps_from(rest, bank_from(&words), before)
+    let run = run_into(object, q, &mut words, chunk);
+    let rest = pass_over(starts::fresh(object, q), run.end.entries);
+    steps_from(rest, bank_from(&words), run.entries)
 }

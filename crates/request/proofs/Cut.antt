@@ -15,7 +15,6 @@ use mir.Val.{sel}
 use Rattle.signed.specs.Bound.{or_false}
 use Rattle.object.specs.declared.types.Scissor.{Scissor}
 use Rattle.object.specs.declared.types.Verdict.TheVariants as verdict
-use Rattle.object.specs.declared.types.Background.TheVariants as background
 use Rattle.checks.specs.Check.{opcode_bad, edge_bad, scissor_bad, refused_by, short, checked_of}
 use Rattle.plan.specs.Request as plan
 use Rattle.plan.specs.Out.{plan_out, refuse}

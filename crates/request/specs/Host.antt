@@ -1,11 +1,10 @@
 -- A host's request: seven words, and what the code keeps of them.
 -- Assumes nothing.
-use Rattle.std.specs.Prelude.{◌≡◌, ◌⊎◌, cond, List, ℕ, ◌%◌, ◌^◌, ltb, get_or, ℤ, pos, negsuc, Err}
+use Rattle.std.specs.Prelude.{◌≡◌, ◌≢◌, ◌⊎◌, cond, List, ℕ, ◌%◌, ◌^◌, ltb, length, get_or, ℤ, pos, negsuc, Result, Err, MatchResult}
 use Rattle.std.specs.Int.{w64}
 use Rattle.std.proofs.Common.{to_z}
 use Rattle.object.specs.declared.types.Scissor.{Scissor}
 use Rattle.object.specs.declared.types.Verdict.{Verdict}
-use Rattle.object.specs.declared.types.Background.TheVariants as background
 use Rattle.checks.specs.Check.{checked_of}
 use Rattle.plan.specs.Request as plan
 use Rattle.plan.specs.Whole.{plan_of}
@@ -52,3 +51,7 @@ Alike q q' = (q ≡ q') ⊎ (RefusedAt q × RefusedAt q')
 pub record KeptIs (ws : List ℕ) (r : Request) : Type 0 where
   pub plan : (bytes : List ℕ) → plan_of (with_bytes bytes r) ≡ plan_of (host_request bytes ws)
   pub alike : (bytes : List ℕ) → Alike (with_bytes bytes r) (host_request bytes ws)
+
+-- a request out of a host's words, which are seven; any other number of them makes none
+abbrev pub HostIs : {E : Type 0} → List ℕ → Result Request E → Type 0
+HostIs ws r = MatchResult r (λ q. (length ws ≡ 7) × KeptIs ws q) (λ _. length ws ≢ 7)

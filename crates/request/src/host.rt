@@ -1,9 +1,10 @@
 // A host's request: opcode, four edges, render mode, address, a word each.
 ghost use Rattle.std.specs.Prelude.{◌≡◌, ◌%◌, ◌^◌, length};
-ghost use Rattle.request.specs.Host.{opcode_kept, edge_kept, KeptIs};
+ghost use Rattle.request.specs.Host.{opcode_kept, edge_kept, KeptIs, HostIs};
 
 use crate::types::Request;
 use object::Scissor;
+use std::array::TryFromSliceError;
 
 // No opcode lies above 255, and 0 is none.
 fn opcode(n: u64) -> u8
@@ -40,5 +41,16 @@ pub fn from_words(words: &[u64; 7]) -> Request
         scissor,
         mode: mode(words[5]),
         address: words[6],
+    }
+}
+
+impl TryFrom<&[u64]> for Request {
+    type Error = TryFromSliceError;
+
+    ghost try_from_gives = { λ words r. HostIs words.now r };
+
+    fn try_from(words: &[u64]) -> Result<Request, TryFromSliceError> {
+        let words = <&[u64; 7]>::try_from(words)?;
+        Ok(from_words(words))
     }
 }

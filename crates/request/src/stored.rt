@@ -1,31 +1,9 @@
 // A case: 40 bytes of object, four edges of 2, the render mode in 4, the opcode in 1, the address in 8.
-ghost use Rattle.std.specs.Prelude.{◌≡◌, ◌+◌, ◌≤◌, pos, length};
-ghost use Rattle.object.specs.Layout.{read};
+ghost use Rattle.std.specs.Prelude.{◌≡◌, ◌≤◌, length};
 ghost use Rattle.request.specs.Stored.{asked_at, case_of};
 
 use crate::types::Request;
-use object::{Scissor, field_from};
-
-fn edge(s: &[u8], at: usize) -> i32
-    requires { at + 2 ≤ length s.now }
-    ensures { result ≡ pos (read s.now at 2) }
-{
-    field_from(s, at, 2) as i32
-}
-
-fn opcode(s: &[u8], at: usize) -> u8
-    requires { at + 1 ≤ length s.now }
-    ensures { result ≡ read s.now at 1 }
-{
-    field_from(s, at, 1) as u8
-}
-
-fn mode(s: &[u8], at: usize) -> u32
-    requires { at + 4 ≤ length s.now }
-    ensures { result ≡ read s.now at 4 }
-{
-    field_from(s, at, 4) as u32
-}
+use object::{Scissor, byte, field_from, half, word};
 
 // What a case asks for besides its object.
 fn asked(s: &[u8]) -> Request
@@ -33,15 +11,15 @@ fn asked(s: &[u8]) -> Request
     ensures { result ≡ asked_at s.now }
 {
     let scissor = Scissor {
-        ulx: edge(s, 40),
-        uly: edge(s, 42),
-        lrx: edge(s, 44),
-        lry: edge(s, 46),
+        ulx: half(s, 40).into(),
+        uly: half(s, 42).into(),
+        lrx: half(s, 44).into(),
+        lry: half(s, 46).into(),
     };
     Request {
-        opcode: opcode(s, 52),
+        opcode: byte(s, 52),
         scissor,
-        mode: mode(s, 48),
+        mode: word(s, 48),
         address: field_from(s, 53, 8),
     }
 }

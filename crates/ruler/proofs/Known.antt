@@ -1,13 +1,14 @@
 -- What measures a request's plan: its ranges, demand 3's numbers, and the plans that have nothing to measure.
 -- Assumes nothing.
-use Rattle.std.specs.Prelude.{Ok, Err, Option, Some, None}
-use Rattle.std.proofs.Common.{◌≡◌, refl, sym, ap, subst, ◌∙◌, Bool, true, false, cond, not, ◌&&◌, List, [], ℕ, ◌+◌, ◌-◌, ◌*◌, ◌/◌, ◌^◌, ◌≤◌, ◌<◌, arith, mul-le-mul, mul-le-mul_right, le-div_iff_mul-le, eqb, ℤ, pos, neg_ℤ, ◌-ℤ◌, ◌*ℤ◌, ◌≤ℤ◌, SFits}
+use Rattle.std.specs.Prelude.{Result, Ok, Err, Option, Some, None}
+use Rattle.std.specs.Result.{result_ok}
+use Rattle.std.proofs.Common.{◌≡◌, refl, sym, ap, ◌∙◌, Bool, true, false, cond, not, ◌&&◌, List, [], ℕ, ◌+◌, ◌-◌, ◌*◌, ◌/◌, ◌^◌, ◌≤◌, ◌<◌, arith, mul-le-mul, mul-le-mul_right, le-div_iff_mul-le, eqb, ℤ, pos, neg_ℤ, ◌-ℤ◌, ◌*ℤ◌, ◌≤ℤ◌, SFits}
 use Rattle.std.specs.Int.{w64}
 use borrow.Author.Tests.{eqb-true}
 use Rattle.signed.specs.Diff.{up, dn, zdiff, zarith}
 use Rattle.signed.specs.Floor.{floor_div, parts}
 use Rattle.measures.specs.Measure.{quarters, in_image, whole_texels, lines_at, of_position, of_lines, whole}
-use Rattle.measures.specs.Range.{Below, Within, counted}
+use Rattle.measures.specs.Range.{Below, Within}
 use Rattle.object.specs.declared.types.ObjBg.{ObjBg}
 use Rattle.object.specs.declared.types.Scissor.{Scissor}
 use Rattle.object.specs.declared.types.Background.TheVariants as background
@@ -27,11 +28,14 @@ use Rattle.plan.specs.Scaled.{clip_of, scaled_empty, start_of, scaled_of, slices
 use Rattle.plan.specs.Sound.{SoundScaled, SoundFirst}
 use Rattle.plan.specs.Whole.{scaled_out, checked_out, plan_with, plan_of}
 use Rattle.plan.specs.Demand.{drift_of, strips_of, aheads}
-use Rattle.scaled.specs.Range.{Usable, Filled, StartIn, ClipIs, StartIs, ScaledIs}
-use Rattle.first.specs.Near.{Near, FirstIs}
+use Rattle.scaled.specs.Range.{Usable, Filled, StartIn}
+use Rattle.first.specs.Near.{Near}
+use Rattle.setup.specs.declared.parts.SetUp.{SetUp}
+use Rattle.setup.specs.Parts.{parts_of, set_up_of, PartsAre}
 use Rattle.small.specs.SmallPlans.{scaled_small}
 use Rattle.ruler.specs.declared.types.Ruler.{Ruler}
-use Rattle.ruler.specs.Drifts.{drifts_of, scaled_set, set_up, drift_in, ruler_from, strips_at, first_at, ruler_of, SoundRuler, MadeIn, RulerScaled, FoundScaled, RulerIs, FoundIs}
+use Rattle.ruler.specs.Ruler.{SoundRuler}
+use Rattle.ruler.specs.Drifts.{drifts_of, scaled_set, set_up, ruler_from, strips_at, first_at, ruler_of, MadeIn, RulerScaled, FoundScaled, RulerIs, FoundIs}
 use Rattle.ruler.proofs.Ranges.{quotient_in, scaled_parts}
 
 -- ---- ranges
@@ -70,7 +74,7 @@ frame_least rows h l u = (le-div_iff_mul-le l).1 (let m = mul-le-mul_right (16 *
 module _ (z : Scaled) (i : Start) (v : SoundScaled z) (n : Near i) (f : z.frame_rows ≡ lines_at z.image_rows z.scale_h.0) where
   pub first_slice : Within 45 (first_of z i).slice × Within 45 (pos z.image_rows *ℤ (first_of z i).slice)
   unfolding first_of
-  first_slice = slice_in (of_lines (floor_div (of_position (i.image_y.0 -ℤ i.origin.0)) z.scale_h.0)) z.frame_rows z.image_rows v.frame_rows v.frame_rows' (rw f (frame_least z.image_rows z.scale_h.0 v.scale_h v.scale_h')) (offset_in i.image_y.0 i.origin.0 z.scale_h.0 v.scale_h n.image_y n.low n.high)
+  first_slice = slice_in (of_lines (floor_div (of_position (i.image_y.0 -ℤ i.origin.0)) z.scale_h.0)) z.frame_rows z.image_rows v.frame_rows v.frame_rows' (rw f (frame_least z.image_rows z.scale_h.0 v.scale_h v.scale_h')) (offset_in i.image_y.0 i.origin.0 z.scale_h.0 v.scale_h n.image_y n.origin.low n.origin.high)
 
 pub below_up : (k : ℕ) (z : ℤ) → Below k z → up z ≤ 2 ^ k - 1
 below_up k z b = omega (zarith, b.high)
@@ -81,12 +85,9 @@ unfolding scaled_of
 strip_rows bg mode address c i = (refl, refl)
 
 module _ (bg : ObjBg) (c : Clip) (i : Start) (z : Scaled) (f : First) (u : Usable bg) (d : Filled c) (n : StartIn bg i) (v : SoundScaled z) (w : SoundFirst z f)
-    (s : Within 45 f.slice) (t : Within 45 (pos z.image_rows *ℤ f.slice)) where
-  pub made_in : MadeIn bg c z f
-  made_in = record { image_y = u.range.image_y; top = d.top; scale_h = v.scale_h'; image_rows = v.image_rows'; first = w; slice = s; origin = u.range.image_y_orig }
-
-  pub ruler_sound : z.source_rows ≡ whole_texels (in_image (quarters bg.image_h)) → SoundRuler (ruler_from bg c i z f)
-  ruler_sound e =
+    (s : Within 45 f.slice) (t : Within 45 (pos z.image_rows *ℤ f.slice)) (e : z.source_rows ≡ whole_texels (in_image (quarters bg.image_h))) where
+  ruler_sound : SoundRuler (ruler_from bg c i z f)
+  ruler_sound =
       let y = below_up 16 bg.image_y.0 u.range.image_y in
       let top = below_up 16 c.top.0 d.top in
       let h = below_up 12 c.height.0 d.height' in
@@ -104,13 +105,17 @@ module _ (bg : ObjBg) (c : Clip) (i : Start) (z : Scaled) (f : First) (u : Usabl
         carry = n.carry;
         slice = s;
         top = t;
-        count = omega (zarith, w.count');
+        count = omega (zarith, w.count);
+        count' = omega (zarith, w.count');
         lines = omega arith;
         start = omega arith;
         origin = u.range.image_y_orig;
       }
 
-module _ {bg : ObjBg} {c : Clip} {z : Scaled} {f : First} (m : MadeIn bg c z f) where
+  pub made_in : MadeIn bg c i z f
+  made_in = record { image_y = u.range.image_y; top = d.top; first = w; sound = ruler_sound }
+
+module _ {bg : ObjBg} {c : Clip} {i : Start} {z : Scaled} {f : First} (m : MadeIn bg c i z f) where
   pub rows_fit : SFits w64 f.slice_rows
   rows_fit = omega (zarith, m.first.slice_rows, m.first.slice_rows')
 
@@ -122,29 +127,14 @@ module _ {bg : ObjBg} {c : Clip} {z : Scaled} {f : First} (m : MadeIn bg c z f) 
 hidden_rows : (n : ℕ) (x : ℤ) → pos n -ℤ (pos n -ℤ x) ≡ x
 hidden_rows n x = simp zdiff (omega zarith)
 
-drift_parts : (q : Request) → pos 0 ≤ℤ (first_at (decode 4 false q.bytes) q.scissor q.mode q.address).count → drift_in (ruler_of (decode 4 false q.bytes) q.scissor q.mode q.address) ≡ drift_of q
+drift_parts : (q : Request) → ruler_of (decode 4 false q.bytes) q.scissor q.mode q.address ≡ drift_of q
 unfolding drift_of first_of
-drift_parts q l =
+drift_parts q =
     let bg = decode 4 false q.bytes in
     let c = clip_of bg q.scissor in
     let i = start_of bg c in
     let z = scaled_of bg q.mode q.address c i in
-    let r = ruler_of bg q.scissor q.mode q.address in
-    λ j.
-    record {
-      h = r.h;
-      image_h = r.image_h;
-      source_rows = r.source_rows;
-      image_rows = r.image_rows;
-      frame_rows = r.frame_rows;
-      first_rows = hidden_rows z.image_rows (whole (first_of z i).image_hidden) j;
-      carry = r.carry;
-      slice = r.slice;
-      count = counted l j;
-      lines = r.lines;
-      start = r.start;
-      origin = r.origin;
-    }
+    λ j. record (ruler_of bg q.scissor q.mode q.address) { first_rows = hidden_rows z.image_rows (whole (first_of z i).image_hidden) j }
 
 -- ---- plans with nothing to measure
 
@@ -210,13 +200,17 @@ not_empty : (bg : ObjBg) (s : Scissor) (mode address : ℕ) → scaled_empty (cl
 unfolding scaled_set
 not_empty bg s mode address a b = rw (a, b)
 
-pub set_empty : (bg : ObjBg) (s : Scissor) (mode address : ℕ) → scaled_empty (clip_of bg s) ≡ true → scaled_set bg s mode address ≡ false
-unfolding scaled_set
-set_empty bg s mode address a = rw a
+pub set_none : (bg : ObjBg) (s : Scissor) (mode address : ℕ) (r : Result SetUp Verdict) → r ≡ set_up_of bg s mode address → result_ok r ≡ None → scaled_set bg s mode address ≡ false
+unfolding scaled_set set_up_of
+set_none bg s mode address r e n = by (scaled_empty p.clip) (slices_bad p.scaled) (ap result_ok (sym e) ∙ n)
+  where
+    p : SetUp
+    p = parts_of bg s mode address
 
-pub set_bad : (bg : ObjBg) (s : Scissor) (mode address : ℕ) → scaled_empty (clip_of bg s) ≡ false → slices_bad (scaled_of bg mode address (clip_of bg s) (start_of bg (clip_of bg s))) ≡ true → scaled_set bg s mode address ≡ false
-unfolding scaled_set
-set_bad bg s mode address a b = rw (a, b)
+    by : (t u : Bool) → result_ok (cond t (Err verdict.Finished) (cond u (Err verdict.Slices) (Ok p))) ≡ None → (not t && not u) ≡ false
+    by true u n = refl
+    by false true n = refl
+    by false false n = let z : ◌≡◌ {A = ℕ} 0 1 = cc in absurd (omega arith)
 
 no_entries : (bg : ObjBg) (q : Request) → scaled_set bg q.scissor q.mode q.address ≡ false → (plan_out (scaled_out bg q)).entries ≡ []
 unfolding scaled_set scaled_out
@@ -230,40 +224,30 @@ no_entries bg q e = by (scaled_empty (clip_of bg q.scissor)) (slices_bad z) e
     by false true e = refl
     by false false e = let n : ◌≡◌ {A = ℕ} 0 1 = cc in absurd (omega arith)
 
--- what the set-up's functions promise
-pub record Set (bg : ObjBg) (s : Scissor) (mode address : ℕ) (c : Clip) (i : Start) (z : Scaled) (f : First) : Type 0 where
-  pub usable : Usable bg
-  pub clip : ClipIs bg s c
-  pub start : StartIs bg c i
-  pub scaled : ScaledIs bg mode address c i z
-  pub first : FirstIs z i f
-  pub filled : scaled_empty c ≡ false
-  pub good : slices_bad z ≡ false
-
 pub near : {bg : ObjBg} {i : Start} → StartIn bg i → Near i
-near s = record { image_y = s.image_y; low = s.low; high = s.high }
+near s = record { image_y = s.image_y; origin = s.origin }
 
-module _ {bg : ObjBg} {s : Scissor} {mode address : ℕ} {c : Clip} {i : Start} {z : Scaled} {f : First} (h : Set bg s mode address c i z f) where
-  strip_slice : Within 45 f.slice × Within 45 (pos z.image_rows *ℤ f.slice)
+module _ {bg : ObjBg} {s : Scissor} {mode address : ℕ} {p : SetUp} (h : PartsAre bg s mode address p) where
+  strip_slice : Within 45 p.first.slice × Within 45 (pos p.scaled.image_rows *ℤ p.first.slice)
   strip_slice =
-      let rows = rw (sym h.scaled.is) at (strip_rows bg mode address c i).0 in
-      rw (sym h.first.is) at (first_slice z i (h.scaled.sound h.good) (near h.start.inside) rows)
+      let rows = rw (sym h.scaled.is) at (strip_rows bg mode address p.clip p.start).0 in
+      rw (sym h.first.is) at (first_slice p.scaled p.start (h.scaled.sound h.good) (near h.start.inside) rows)
 
-  pub set_made : MadeIn bg c z f
-  set_made = let k = strip_slice in made_in bg c i z f h.usable (h.clip.filled h.filled) h.start.inside (h.scaled.sound h.good) h.first.sound k.0 k.1
-
-  pub set_is : (r : Ruler) → r ≡ ruler_from bg c i z f → RulerScaled bg s mode address r
-  set_is r e =
+  pub set_made : MadeIn bg p.clip p.start p.scaled p.first
+  set_made =
       let k = strip_slice in
+      made_in bg p.clip p.start p.scaled p.first h.usable (h.clip.filled h.filled) h.start.inside (h.scaled.sound h.good) h.first.sound k.0 k.1 (rw (sym h.scaled.is) at (strip_rows bg mode address p.clip p.start).1)
+
+  pub set_is : (r : Ruler) → r ≡ ruler_from bg p.clip p.start p.scaled p.first → RulerScaled bg s mode address r
+  set_is r e =
       let ic = h.clip.is in
-      let ii : i ≡ start_of bg (clip_of bg s) = h.start.is ∙ ap (start_of bg) ic in
-      let iz : z ≡ strips_at bg s mode address = h.scaled.is ∙ (λ j. scaled_of bg mode address (ic j) (ii j)) in
-      let first : f ≡ first_at bg s mode address = h.first.is ∙ (λ j. first_of (iz j) (ii j)) in
+      let ii : p.start ≡ start_of bg (clip_of bg s) = h.start.is ∙ ap (start_of bg) ic in
+      let iz : p.scaled ≡ strips_at bg s mode address = h.scaled.is ∙ (λ j. scaled_of bg mode address (ic j) (ii j)) in
+      let first : p.first ≡ first_at bg s mode address = h.first.is ∙ (λ j. first_of (iz j) (ii j)) in
       record {
         set = not_empty bg s mode address (rw ic at h.filled) (rw iz at h.good);
         is = e ∙ (λ j. ruler_from bg (ic j) (ii j) (iz j) (first j));
-        count = subst (λ (x : First). pos 0 ≤ℤ x.count) first (omega (zarith, h.first.sound.count));
-        sound = rw e (ruler_sound bg c i z f h.usable (h.clip.filled h.filled) h.start.inside (h.scaled.sound h.good) h.first.sound k.0 k.1 (rw (sym h.scaled.is) at (strip_rows bg mode address c i).1));
+        sound = rw e set_made.sound;
       }
 
 module _ (q : Request) (bg : ObjBg) (e : checked_of 4 q.bytes q.opcode q.scissor ≡ Ok (background.Scaled bg)) where
@@ -281,7 +265,7 @@ module _ (q : Request) (bg : ObjBg) (e : checked_of 4 q.bytes q.opcode q.scissor
       record {
         set = set_up_lem f.set;
         opcode = scaled_opcode q.bytes q.opcode q.scissor bg e;
-        is = ap drift_in (f.is ∙ ap (λ (o : ObjBg). ruler_of o q.scissor q.mode q.address) b) ∙ drift_parts q (subst (λ (o : ObjBg). pos 0 ≤ℤ (first_at o q.scissor q.mode q.address).count) b f.count);
+        is = f.is ∙ ap (λ (o : ObjBg). ruler_of o q.scissor q.mode q.address) b ∙ drift_parts q;
         sound = f.sound;
         small = scaled_small q bg e p a;
       }

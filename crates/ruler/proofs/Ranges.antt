@@ -1,15 +1,18 @@
 -- No sum of a measure overflows.
 -- Assumes nothing.
-use Rattle.std.proofs.Common.{◌≡◌, refl, ◌∙◌, Bool, true, false, cond, ℕ, suc, ◌+◌, ◌*◌, ◌≤◌, ◌^◌, arith, mul-le-mul, mul-le-mul_right, div-mul-le_self, lit<, SFits, ℤ, pos, negsuc, ◌+ℤ◌, ◌-ℤ◌, ◌*ℤ◌}
+use Rattle.std.proofs.Common.{◌≡◌, refl, ◌∙◌, Bool, true, false, cond, ℕ, suc, ◌+◌, ◌-◌, ◌*◌, ◌≤◌, ◌^◌, arith, mul-le-mul, mul-le-mul_right, div-mul-le_self, lit<, SFits, to_z, of_z, ℤ, pos, negsuc, ◌+ℤ◌, ◌-ℤ◌, ◌*ℤ◌}
 use Rattle.std.specs.Int.{w64}
 use Rattle.std.specs.Int.Signed.{le_z}
+use Rattle.signed.specs.Word.{rd}
 use Rattle.signed.specs.Diff.{up, dn, zdiff, zarith, neg_is}
 use Rattle.signed.specs.Floor.{floor_div, parts}
 use Rattle.measures.specs.Measure.{whole_rows}
 use Rattle.measures.specs.Range.{Within}
 use Rattle.ruler.specs.declared.types.Ruler.{Ruler}
 use Rattle.ruler.specs.declared.types.Place.{Place}
-use Rattle.ruler.specs.Drifts.{SoundRuler, SoundPlace, StripIn, InPlace, NextAt, drawn_from}
+use Rattle.ruler.specs.Ruler.{SoundRuler}
+use Rattle.ruler.specs.Place.{place_at, InPlace}
+use Rattle.ruler.specs.Drifts.{SoundPlace, StripOf, NextAt, drawn_from}
 
 pub sum_in : (x y : ℤ) → Within 46 x → Within 31 y → Within 47 (x +ℤ y)
 sum_in x y a b = record { low = simp zdiff (omega (zarith, a.low, b.low)); high = simp zdiff (omega (zarith, a.high, b.high)) }
@@ -48,8 +51,20 @@ chosen false x h = record { low = omega zarith; high = omega zarith }
 origin_rows : (o : ℤ) → Within 31 o → Within 31 (whole_rows o)
 origin_rows o w = let p = parts o 32 (lit< tt) in record { low = omega (zarith, w.low); high = omega (zarith, w.high) }
 
-pub rows_in : (r : Ruler) (k : ℤ) → SoundRuler r → StripIn r k → Within 48 (pos r.image_rows *ℤ k +ℤ whole_rows r.origin +ℤ pos r.carry +ℤ cond (le_z k r.slice) r.first_rows (pos 0))
-rows_in r k s t = rows_sum _ _ r.carry (sum_in _ _ t.top (origin_rows r.origin s.origin)) s.carry (chosen (le_z k r.slice) r.first_rows s.first_rows)
+-- the row at which a strip of the ruler's starts
+strip_top : (rows : ℕ) (slice : ℤ) (n : ℕ) → rows ≤ 512 → n ≤ 66495 → Within 45 (pos rows *ℤ slice) → Within 46 (pos rows *ℤ (slice +ℤ pos n))
+strip_top rows slice n r l w =
+    let e : pos rows *ℤ (slice +ℤ pos n) ≡ pos rows *ℤ slice +ℤ pos (rows * n) = simp zdiff (omega zarith) in
+    rw e (by (pos rows *ℤ slice) (rows * n) w (mul-le-mul r l))
+  where
+    by : (x : ℤ) (m : ℕ) → Within 45 x → m ≤ 512 * 66495 → Within 46 (x +ℤ pos m)
+    by x m w l = record { low = simp zdiff (omega (zarith, w.low)); high = simp zdiff (omega (zarith, w.high)) }
+
+pub top_in : {r : Ruler} {k : ℤ} → SoundRuler r → StripOf r k → Within 46 (pos r.image_rows *ℤ k)
+top_in {r} s t = rw t.at (strip_top r.image_rows r.slice t.since s.image_rows t.few s.top)
+
+pub rows_in : {r : Ruler} {k : ℤ} → SoundRuler r → StripOf r k → Within 48 (pos r.image_rows *ℤ k +ℤ whole_rows r.origin +ℤ pos r.carry +ℤ cond (le_z k r.slice) r.first_rows (pos 0))
+rows_in {r} {k} s t = rows_sum _ _ r.carry (sum_in _ _ (top_in s t) (origin_rows r.origin s.origin)) s.carry (chosen (le_z k r.slice) r.first_rows s.first_rows)
 
 pub wide_fits : {n : ℕ} {z : ℤ} → 2 ^ n ≤ 2 ^ 62 → Within n z → SFits w64 z
 wide_fits {n} l w = omega (zarith, w.low, w.high, neg_is (pos (2 ^ n)))
@@ -72,21 +87,22 @@ first_line a b h e u v = let z : h * 0 ≡ 0 = omega arith in rw z (simp zdiff (
 -- ---- places
 
 module _ {p : Place} (i : InPlace p) where
+  place_strip : Within 46 p.k
+  place_strip = record { low = i.low; high = let h = simp zdiff at i.high in omega zarith }
+
   pub place_fits : SFits w64 p.k
-  place_fits = let h = simp zdiff at i.high in omega (zarith, i.low)
+  place_fits = wide_fits {n = 46} (omega arith) place_strip
 
-strip_top : (rows : ℕ) (slice : ℤ) (n : ℕ) → rows ≤ 512 → n ≤ 66495 → Within 45 (pos rows *ℤ slice) → Within 46 (pos rows *ℤ (slice +ℤ pos n))
-strip_top rows slice n r l w =
-    let e : pos rows *ℤ (slice +ℤ pos n) ≡ pos rows *ℤ slice +ℤ pos (rows * n) = simp zdiff (omega zarith) in
-    rw e (by (pos rows *ℤ slice) (rows * n) w (mul-le-mul r l))
-  where
-    by : (x : ℤ) (m : ℕ) → Within 45 x → m ≤ 512 * 66495 → Within 46 (x +ℤ pos m)
-    by x m w l = record { low = simp zdiff (omega (zarith, w.low)); high = simp zdiff (omega (zarith, w.high)) }
+  pub strip_read : Within 46 (to_z w64 (of_z w64 p.k))
+  strip_read = rw (rd place_fits) place_strip
 
-strip_number : (slice : ℤ) (n : ℕ) → n ≤ 66495 → Within 45 slice → Within 46 (slice +ℤ pos n)
-strip_number slice n l w = record { low = simp zdiff (omega (zarith, w.low)); high = simp zdiff (omega (zarith, w.high)) }
+  -- after a pass, whatever lines are left
+  pub pass_in : (left count earlier : ℕ) → 1 ≤ p.fuel → count ≤ 2 ^ 30 → earlier ≤ p.earlier + 16384 → InPlace (place_at (p.fuel - 1) (p.k +ℤ pos 1) left count earlier)
+  pass_in left count earlier h c l =
+      let w = simp zdiff at i.high in
+      record { fuel = omega (arith, i.fuel); low = simp zdiff (omega (zarith, i.low)); high = simp zdiff (omega zarith); count = c; earlier = omega (arith, i.earlier) }
 
-module _ (r : Ruler) (h : SoundRuler r) (f : ℕ) (p s : Place) (g : SoundPlace r p) (n : NextAt f p s) where
+module _ {r : Ruler} {f : ℕ} {p s : Place} (g : SoundPlace r p) (n : NextAt f p s) where
   -- the strip that draws next, by the passes since strip `slice`
   next_since : s.k ≡ r.slice +ℤ pos (g.since + n.idle)
   next_since = n.at ∙ rw g.at (simp zdiff (omega zarith))
@@ -94,21 +110,13 @@ module _ (r : Ruler) (h : SoundRuler r) (f : ℕ) (p s : Place) (g : SoundPlace 
   next_few : g.since + n.idle + s.fuel ≤ 66495
   next_few = omega (arith, g.few, n.few)
 
-  pub next_strip : StripIn r s.k
-  next_strip =
-      let l : g.since + n.idle ≤ 66495 = omega (arith, next_few) in
-      rw next_since (record { strip = strip_number r.slice _ l h.slice; top = strip_top r.image_rows r.slice _ h.image_rows l h.top })
+  pub next_strip : StripOf r s.k
+  next_strip = record { since = g.since + n.idle; at = next_since; few = omega (arith, next_few) }
 
   -- and the place after it
-  pub drawn_place : (lines : ℕ) → f ≤ 536870912 → lines ≤ 16383 → SoundPlace r (drawn_from f s lines)
-  drawn_place lines b l =
+  pub drawn_place : (lines : ℕ) → SoundPlace r (drawn_from f s lines)
+  drawn_place lines =
       let u = n.fuel in
       let few = next_few in
-      let i = n.place in
       let e : s.k +ℤ pos 1 ≡ r.slice +ℤ pos (g.since + n.idle + 1) = rw next_since (simp zdiff (omega zarith)) in
-      record {
-        since = g.since + n.idle + 1;
-        at = e;
-        few = omega arith;
-        place = record { fuel = omega (arith, i.fuel); low = rw e (simp zdiff (omega (zarith, h.slice.low))); high = rw e (simp zdiff (omega (zarith, h.slice.high))); count = omega arith; earlier = omega (arith, i.earlier) };
-      }
+      record { since = g.since + n.idle + 1; at = e; few = omega arith }

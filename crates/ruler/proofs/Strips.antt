@@ -6,7 +6,7 @@ use borrow.Author.Tests.{lt-ltb, eq-eqb, ne_eqb, ltb-true, ltb-false}
 use Rattle.signed.specs.Diff.{zdiff, zarith}
 use Rattle.plan.specs.Demand.{strips}
 use Rattle.ruler.specs.declared.types.Place.{Place}
-use Rattle.ruler.specs.Drifts.{strips_from, idle_from, InPlace, NextAt}
+use Rattle.ruler.specs.Drifts.{strips_from, idle_from, NextAt}
 
 -- no line is left, or no pass
 strips_over : (n f : ℕ) (k left count : ℤ) → lt_z (pos 0) left ≡ false → strips n f k left count ≡ []
@@ -53,29 +53,21 @@ pub record Idled (f : ℕ) (p s : Place) : Type 0 where
   pub few : idle + s.fuel ≡ p.fuel
   pub left : 1 ≤ s.left
   pub earlier : s.earlier ≡ p.earlier
-  pub place : InPlace s
 
-pub idled_more : (f : ℕ) (p s : Place) → f ≤ 536870912 → 1 ≤ s.fuel → s.count ≤ 1023 → Idled f p s → Idled f p (idle_from f s)
-idled_more f p s b h c d =
+pub idled_start : (f : ℕ) (p : Place) → 1 ≤ p.left → Idled f p p
+idled_start f p l = let e : p.k ≡ p.k +ℤ pos 0 = simp zdiff (omega zarith) in record { same = refl; idle = 0; at = e; few = omega arith; left = l; earlier = refl }
+
+pub idled_more : (f : ℕ) (p s : Place) → 1 ≤ s.fuel → s.count ≤ 1023 → Idled f p s → Idled f p (idle_from f s)
+idled_more f p s h c d =
     let e = d.at in
-    let i = d.place in
     let n = d.few in
-    let w = simp zdiff at i.high in
     let g : s.k +ℤ pos 1 ≡ p.k +ℤ pos (d.idle + 1) = rw e (simp zdiff (omega zarith)) in
-    record {
-      same = d.same ∙ idle_at s.fuel f s.k s.left s.count h d.left c;
-      idle = d.idle + 1;
-      at = g;
-      few = omega arith;
-      left = d.left;
-      earlier = d.earlier;
-      place = record { fuel = omega (arith, i.fuel); low = simp zdiff (omega (zarith, i.low)); high = simp zdiff (omega zarith); count = omega arith; earlier = omega (arith, i.earlier) };
-    }
+    record { same = d.same ∙ idle_at s.fuel f s.k s.left s.count h d.left c; idle = d.idle + 1; at = g; few = omega arith; left = d.left; earlier = d.earlier }
 
 pub idled_next : (f : ℕ) (p s : Place) → 1 ≤ s.fuel → 1024 ≤ s.count → Idled f p s → NextAt f p s
 idled_next f p s h c d =
     let n = d.few in
-    record { strips = d.same ∙ draw_at s.fuel f s.k s.left s.count h d.left c; idle = d.idle; at = d.at; few = omega arith; fuel = h; earlier = d.earlier; place = d.place }
+    record { strips = d.same ∙ draw_at s.fuel f s.k s.left s.count h d.left c; idle = d.idle; at = d.at; few = omega arith; fuel = h; earlier = d.earlier }
 
 pub idled_over : (f : ℕ) (p s : Place) → s.fuel ≡ 0 → Idled f p s → strips_from f p ≡ []
 unfolding strips

@@ -1,13 +1,11 @@
 -- Demand 3's numbers of each rectangle of a scaled plan, and what the code has of them between two rectangles. D is docs/SPECIFICATION.md, section 11.
 -- Assumes nothing.
-use Rattle.std.specs.Prelude.{◌≡◌, Bool, true, false, cond, not, ◌&&◌, List, [], ◌∷◌, ℕ, ◌+◌, ◌*◌, ◌-◌, ◌/◌, ◌%◌, ◌^◌, ◌≤◌, eqb, ℤ, pos, neg_ℤ, ◌+ℤ◌, ◌-ℤ◌, ◌*ℤ◌, ◌≤ℤ◌, Ok, Err, Option, Some, None}
+use Rattle.std.specs.Prelude.{◌≡◌, Bool, true, false, cond, not, ◌&&◌, List, [], ◌∷◌, ℕ, ◌+◌, ◌*◌, ◌-◌, ◌/◌, ◌%◌, ◌≤◌, eqb, ℤ, pos, ◌+ℤ◌, ◌-ℤ◌, Result, Ok, Err, Option, Some, None}
 use Rattle.std.specs.Int.Signed.{le_z}
-use Rattle.std.specs.Int.{w64}
-use Rattle.std.proofs.Common.{SFits}
 use Rattle.signed.specs.Diff.{up}
 use Rattle.signed.specs.Floor.{modulo}
 use Rattle.measures.specs.Measure.{quarters, thirty_seconds, texels, sampled_by}
-use Rattle.measures.specs.Range.{Below, Within}
+use Rattle.measures.specs.Range.{Below}
 use Rattle.object.specs.declared.types.ObjBg.{ObjBg}
 use Rattle.object.specs.declared.types.Scissor.{Scissor}
 use Rattle.checks.specs.Check.{Checked}
@@ -29,8 +27,8 @@ use Rattle.small.specs.Small.{Signed16, AllSmall}
 use Rattle.ruler.specs.declared.types.Ruler.{Ruler}
 use Rattle.ruler.specs.declared.types.Place.{Place}
 use Rattle.ruler.specs.declared.types.Begun.{Begun}
-use Rattle.ruler.specs.declared.types.Taken.{Taken}
-use Rattle.ruler.specs.declared.types.Taken.TheVariants as taken
+use Rattle.ruler.specs.declared.types.Over.{Over}
+use Rattle.ruler.specs.Ruler.{SoundRuler}
 
 -- ---- what a plan has
 
@@ -53,24 +51,6 @@ set_up q = checked_set (checked_of 4 q.bytes q.opcode q.scissor) q
 
 -- ---- what the code has of it
 
--- demand 3's numbers
-abbrev pub drift_in : Ruler → Drift
-drift_in r =
-    record {
-      h = r.h;
-      image_h = r.image_h;
-      source_rows = r.source_rows;
-      image_rows = r.image_rows;
-      frame_rows = r.frame_rows;
-      first_rows = r.first_rows;
-      carry = r.carry;
-      slice = r.slice;
-      count = pos r.count;
-      lines = r.lines;
-      start = r.start;
-      origin = r.origin;
-    }
-
 abbrev pub ruler_from : ObjBg → Clip → Start → Scaled → First → Ruler
 ruler_from bg c i z f =
     record {
@@ -82,7 +62,7 @@ ruler_from bg c i z f =
       first_rows = pos z.image_rows -ℤ f.slice_rows;
       carry = i.carry;
       slice = f.slice;
-      count = up f.count;
+      count = f.count;
       lines = texels (quarters c.height);
       start = thirty_seconds bg.image_y + sampled_by (quarters c.top) z.scale_h.0;
       origin = bg.image_y_orig.0;
@@ -102,7 +82,7 @@ abbrev pub apt_in : Ruler → Bool
 apt_in r = eqb (r.image_h % 4) 0 && (eqb (modulo r.origin 32) 0 && le_z r.origin (pos r.start))
 
 abbrev pub place_of : Ruler → Place
-place_of r = record { fuel = 65 * r.lines; k = r.slice; left = r.lines; count = r.count; earlier = 0 }
+place_of r = record { fuel = 65 * r.lines; k = r.slice; left = r.lines; count = up r.count; earlier = 0 }
 
 -- the strips that draw from a place on
 abbrev pub strips_from : (f : ℕ) → Place → List ℤ
@@ -110,10 +90,7 @@ strips_from f p = strips p.fuel f p.k (pos p.left) (pos p.count)
 
 -- the rectangles of entries to come
 abbrev pub drifts_from : Ruler → Place → List Entry → List demand.Begun
-drifts_from r p es = aheads (drift_in r) p.earlier (strips_from r.frame_rows p) es
-
-abbrev pub begun_in : Begun → demand.Begun
-begun_in b = record { line = b.line; strip = b.strip; distance = b.distance }
+drifts_from r p es = aheads r p.earlier (strips_from r.frame_rows p) es
 
 -- after a pass without a line
 abbrev pub idle_from : (f : ℕ) → Place → Place
@@ -125,51 +102,24 @@ drawn_from f p lines = record { fuel = p.fuel - 1; k = p.k +ℤ pos 1; left = p.
 
 -- ---- ranges
 
-pub record SoundRuler (r : Ruler) : Type 0 where
-  pub h : r.h ≤ 65535
-  pub image_h : r.image_h ≤ 4 * r.source_rows + 3
-  pub source_rows : 1 ≤ r.source_rows
-  pub source_rows' : r.source_rows ≤ 16383
-  pub image_rows : r.image_rows ≤ 512
-  pub frame_rows : r.frame_rows ≤ 536870912
-  pub first_rows : Within 28 r.first_rows
-  pub carry : r.carry ≤ 2 ^ 23
-  pub slice : Within 45 r.slice
-  pub top : Within 45 (pos r.image_rows *ℤ r.slice)
-  pub count : r.count ≤ 2 ^ 30
-  pub lines : r.lines ≤ 1023
-  pub start : r.start ≤ 2 ^ 26
-  pub origin : Within 31 r.origin
-
 -- what it is made of
-pub record MadeIn (bg : ObjBg) (c : Clip) (z : Scaled) (f : First) : Type 0 where
+pub record MadeIn (bg : ObjBg) (c : Clip) (i : Start) (z : Scaled) (f : First) : Type 0 where
   pub image_y : Below 16 bg.image_y.0
   pub top : Below 16 c.top.0
-  pub scale_h : z.scale_h.0 ≤ 65535
-  pub image_rows : z.image_rows ≤ 512
   pub first : SoundFirst z f
-  pub slice : Within 45 f.slice
-  pub origin : Within 31 bg.image_y_orig.0
+  pub sound : SoundRuler (ruler_from bg c i z f)
 
--- a strip's number, and the image row at which it starts
-pub record StripIn (r : Ruler) (k : ℤ) : Type 0 where
-  pub strip : Within 46 k
-  pub top : Within 46 (pos r.image_rows *ℤ k)
+-- the number of a strip: `since` passes after strip `slice`
+pub record StripOf (r : Ruler) (k : ℤ) : Type 0 where
+  pub since : ℕ
+  pub at : k ≡ r.slice +ℤ pos since
+  pub few : since ≤ 66495
 
--- no sum of a pass overflows, if no rectangle has more than 16,383 lines
-pub record InPlace (p : Place) : Type 0 where
-  pub fuel : p.fuel ≤ 66495
-  pub low : neg_ℤ (pos (2 ^ 46)) ≤ℤ p.k
-  pub high : (p.k +ℤ pos p.fuel) ≤ℤ pos (2 ^ 46 - 1)
-  pub count : p.count ≤ 2 ^ 30
-  pub earlier : p.earlier + 16384 * p.fuel ≤ 2 ^ 31
-
--- `since` passes after strip `slice`
+-- a place of this ruler's plan, by the same count, with no more passes left than the plan has
 pub record SoundPlace (r : Ruler) (p : Place) : Type 0 where
   pub since : ℕ
   pub at : p.k ≡ r.slice +ℤ pos since
   pub few : since + p.fuel ≤ 66495
-  pub place : InPlace p
 
 -- a rectangle's numbers, as every plan has them
 abbrev pub RectIn : (lry : ℕ) → (ult : ℤ) → (row : ℕ) → Type 0
@@ -185,22 +135,24 @@ pub record NextAt (f : ℕ) (p s : Place) : Type 0 where
   pub few : idle + s.fuel ≤ p.fuel
   pub fuel : 1 ≤ s.fuel
   pub earlier : s.earlier ≡ p.earlier
-  pub place : InPlace s
 
 abbrev pub NextIs : (f : ℕ) → Place → Option Place → Type 0
 NextIs f p (Some s) = NextAt f p s
 NextIs f p None = strips_from f p ≡ []
 
+abbrev pub Taken : Type 0
+Taken = Result (Option (Begun × Place)) Over
+
 -- the rectangles of an entry and of those after it, by what the entry is
 abbrev pub taken_of : Ruler → Place → Taken → List Entry → List demand.Begun
-taken_of r p (taken.Is b s) es = begun_in b ∷ drifts_from r s es
-taken_of r p taken.Passed es = drifts_from r p es
-taken_of r p taken.Over es = []
+taken_of r p (Ok (Some b)) es = b.0 ∷ drifts_from r b.1 es
+taken_of r p (Ok None) es = drifts_from r p es
+taken_of r p (Err o) es = []
 
 abbrev pub SoundTaken : Ruler → Taken → Type 0
-SoundTaken r (taken.Is b s) = (SoundPlace r s) × ((Within 46 b.strip) × SFits w64 b.distance)
-SoundTaken r taken.Passed = Unit {0}
-SoundTaken r taken.Over = Unit {0}
+SoundTaken r (Ok (Some b)) = SoundPlace r b.1
+SoundTaken r (Ok None) = Unit {0}
+SoundTaken r (Err o) = Unit {0}
 
 pub record TakenIs (r : Ruler) (p : Place) (e : Entry) (t : Taken) : Type 0 where
   pub is : (es : List Entry) → drifts_from r p (e ∷ es) ≡ taken_of r p t es
@@ -213,7 +165,6 @@ RectIs r p uly lry ult row t = (i ulx lrx : ℕ) (uls dsdx dtdy : ℤ) → Taken
 pub record RulerScaled (bg : ObjBg) (s : Scissor) (mode address : ℕ) (r : Ruler) : Type 0 where
   pub set : scaled_set bg s mode address ≡ true
   pub is : r ≡ ruler_of bg s mode address
-  pub count : pos 0 ≤ℤ (first_at bg s mode address).count
   pub sound : SoundRuler r
 
 abbrev pub FoundScaled : ObjBg → Scissor → (mode address : ℕ) → Option Ruler → Type 0
@@ -224,7 +175,7 @@ FoundScaled bg s mode address None = scaled_set bg s mode address ≡ false
 pub record RulerIs (q : Request) (r : Ruler) : Type 0 where
   pub set : set_up q ≡ true
   pub opcode : q.opcode ≡ 9
-  pub is : drift_in r ≡ drift_of q
+  pub is : r ≡ drift_of q
   pub sound : SoundRuler r
   pub small : AllSmall (plan_of q).entries
 

@@ -4,7 +4,7 @@ ghost use Rattle.measures.specs.Measure.{quarters, thirty_seconds, sampled_by};
 ghost use Rattle.measures.specs.Range.{Below};
 ghost use Rattle.checks.specs.Known.{PassedScaled};
 ghost use Rattle.request.specs.Host.{with_bytes};
-ghost use Rattle.ruler.specs.Drifts.{SoundRuler, SoundPlace, place_of, apt_in, ruler_from, MadeIn, FoundScaled, FoundIs};
+ghost use Rattle.ruler.specs.Drifts.{SoundPlace, place_of, apt_in, ruler_from, MadeIn, FoundScaled, FoundIs};
 
 use crate::types::{Place, Ruler};
 use measures::{Quarters, Scale, ThirtySeconds};
@@ -29,7 +29,7 @@ fn rows_above(image_rows: u64, slice_rows: i64) -> i64
 }
 
 fn made(bg: ObjBg, c: Clip, i: Start, z: Scaled, f: First) -> Ruler
-    requires { MadeIn bg c z f }
+    requires { MadeIn bg c i z f }
     ensures { result ≡ ruler_from bg c i z f }
 {
     let image_h = measures::quarters(bg.image_h);
@@ -57,16 +57,8 @@ fn scaled_found(bg: ObjBg, q: Request) -> Option<Ruler>
     requires { PassedScaled bg q.scissor }
     ensures { FoundScaled bg q.scissor q.mode q.address result }
 {
-    let c = scaled::clip_of(bg, q.scissor);
-    if scaled::clip_empty(c) {
-        return None;
-    }
-    let i = scaled::start_of(bg, c);
-    let z = scaled::scaled_of(bg, q.mode, q.address, c, i);
-    if scaled::slices_bad(z) {
-        return None;
-    }
-    Some(made(bg, c, i, z, first::first_of(z, i)))
+    let parts = setup::set_up(bg, q).ok()?;
+    Some(made(bg, parts.clip, parts.start, parts.scaled, parts.first))
 }
 
 // Nothing measures a plan that has no scaled rectangle to come.
@@ -82,7 +74,6 @@ pub fn ruler_of(object: &[u8], q: Request) -> Option<Ruler>
 
 // Before the first pass.
 pub fn place_of(r: Ruler) -> Place
-    requires { SoundRuler r }
     ensures { (result ≡ place_of r) × SoundPlace r result }
 {
     Place {
@@ -96,14 +87,7 @@ pub fn place_of(r: Ruler) -> Place
 
 // Demand 3's conditions on a scaled plan.
 pub fn apt(r: Ruler) -> bool
-    requires { SoundRuler r }
     ensures { result ≡ apt_in r }
 {
-    if r.image_h % 4 != 0 {
-        return false;
-    }
-    if signed::rem_euclid(r.origin, 32) != 0 {
-        return false;
-    }
-    r.origin <= r.start as i64
+    r.image_h % 4 == 0 && signed::rem_euclid(r.origin, 32) == 0 && r.origin <= r.start as i64
 }

@@ -8,4 +8,4 @@ mod types;
 
 pub use found::{apt, place_of, ruler_of};
 pub use measure::{ahead, behind, taken};
-pub use types::{Begun, Place, Ruler, Taken};
+pub use types::{Begun, Over, Place, Ruler, Taken};

@@ -5,10 +5,10 @@ ghost use Rattle.measures.specs.Measure.{whole_rows};
 ghost use Rattle.measures.specs.Range.{Within};
 ghost use Rattle.plan.specs.Demand.{wholes as wholes_of, ahead as ahead_at, behind_of, ahead_of};
 ghost use Rattle.small.specs.Small.{Signed16, Small};
-ghost use Rattle.ruler.specs.Drifts.{drift_in, SoundRuler, SoundPlace, StripIn, RectIn, RectIs, TakenIs};
+ghost use Rattle.ruler.specs.Drifts.{SoundPlace, StripOf, RectIn, RectIs, TakenIs};
 
 use crate::strip::{drawn, next_strip};
-use crate::types::{Begun, Place, Ruler, Taken};
+use crate::types::{Begun, Over, Place, Ruler, Taken};
 use measures::ThirtySeconds;
 use plan::Entry;
 
@@ -45,8 +45,8 @@ fn above(first_rows: i64, k: i64, slice: i64) -> i64
 
 // The whole images that strip k lies below the origin's.
 fn wholes(r: Ruler, k: i64) -> i64
-    requires { (SoundRuler r) × StripIn r k }
-    ensures { result ≡ wholes_of (drift_in r) k }
+    requires { StripOf r k }
+    ensures { result ≡ wholes_of r k }
 {
     let top = top_row(r.image_rows, k, r.origin);
     let rows = top + r.carry as i64 + above(r.first_rows, k, r.slice);
@@ -68,35 +68,35 @@ fn exact(h: u64, start: u64, carry: u64, earlier: u64) -> i64
 }
 
 fn distance(r: Ruler, k: i64, row: u64, ult: i64, earlier: u64) -> i64
-    requires { (SoundRuler r) × ((StripIn r k) × ((earlier ≤ 2 ^ 31) × ((row ≤ 65535) × Signed16 ult))) }
-    ensures { result ≡ ahead_at (drift_in r) k row ult earlier 0 }
+    requires { (StripOf r k) × ((earlier ≤ 2 ^ 31) × ((row ≤ 65535) × Signed16 ult)) }
+    ensures { result ≡ ahead_at r k row ult earlier 0 }
 {
     let near = sampled(row, ult) - exact(r.h, r.start, r.carry, earlier);
     near + (256 * r.image_h) as i64 * wholes(r, k)
 }
 
 // A rectangle, and the place after its strip.
+#[tactic(auto, unfolding(plan::specs::Demand::aheads))]
 fn rect_taken(r: Ruler, p: Place, uly: u64, lry: u64, ult: i64, row: u64) -> Taken
-    requires { (SoundRuler r) × ((SoundPlace r p) × RectIn lry ult row) }
+    requires { (SoundPlace r p) × RectIn lry ult row }
     ensures { RectIs r p uly lry ult row result }
 {
-    match next_strip(r.frame_rows, p) {
-        Some(s) => {
-            let lines = lry.saturating_sub(uly) / 4;
-            let distance = distance(r, s.k, row, ult, s.earlier);
-            let begun = Begun {
-                line: s.earlier,
-                strip: s.k,
-                distance,
-            };
-            Taken::Is(begun, drawn(r.frame_rows, s, lines))
-        }
-        None => Taken::Over,
-    }
+    let Some(s) = next_strip(r, p) else {
+        return Err(Over);
+    };
+    let lines = lry.saturating_sub(uly) / 4;
+    let distance = distance(r, s.k, row, ult, s.earlier);
+    let begun = Begun {
+        line: s.earlier,
+        strip: s.k,
+        distance,
+    };
+    Ok(Some((begun, drawn(r, s, lines))))
 }
 
+#[tactic(auto, unfolding(plan::specs::Demand::aheads))]
 pub fn taken(r: Ruler, p: Place, e: Entry) -> Taken
-    requires { (SoundRuler r) × ((SoundPlace r p) × Small e) }
+    requires { (SoundPlace r p) × Small e }
     ensures { TakenIs r p e result }
 {
     match e {
@@ -107,9 +107,8 @@ pub fn taken(r: Ruler, p: Place, e: Entry) -> Taken
             row,
             ..
         } => rect_taken(r, p, uly, lry, ult, row),
-        Entry::Image { .. } => Taken::Passed,
-        Entry::Tile { .. } => Taken::Passed,
-        Entry::Size { .. } => Taken::Passed,
-        Entry::Load { .. } => Taken::Passed,
+        Entry::Image { .. } | Entry::Tile { .. } | Entry::Size { .. } | Entry::Load { .. } => Ok(
+            None,
+        ),
     }
 }

@@ -1,27 +1,25 @@
 // The strips that draw, by the passes of a scaled plan: those without a line are passed over.
 ghost use Rattle.std.specs.Prelude.{◌≤◌, ◌≡◌};
-ghost use Rattle.ruler.specs.Drifts.{NextIs, InPlace, idle_from, drawn_from};
+ghost use Rattle.ruler.specs.Drifts.{NextIs, idle_from, drawn_from};
 
-use crate::types::Place;
+use crate::types::{Place, Ruler};
 
 // After a pass without a line.
-fn idle(frame_rows: u64, p: Place) -> Place
-    requires { (frame_rows ≤ 536870912) × ((p.count ≤ 1023) × ((1 ≤ p.fuel) × InPlace p)) }
-    ensures { result ≡ idle_from frame_rows p }
+fn idle(r: Ruler, p: Place) -> Place
+    requires { (p.count ≤ 1023) × (1 ≤ p.fuel) }
+    ensures { result ≡ idle_from r.frame_rows p }
 {
     Place {
         fuel: p.fuel - 1,
         k: p.k + 1,
-        left: p.left,
-        count: p.count + frame_rows,
-        earlier: p.earlier,
+        count: p.count + r.frame_rows,
+        ..p
     }
 }
 
 // The strip that draws next.
-pub(crate) fn next_strip(frame_rows: u64, start: Place) -> Option<Place>
-    requires { (frame_rows ≤ 536870912) × InPlace start }
-    ensures { NextIs frame_rows start result }
+pub(crate) fn next_strip(r: Ruler, start: Place) -> Option<Place>
+    ensures { NextIs r.frame_rows start result }
 {
     let mut p = start;
     if p.left == 0 {
@@ -31,21 +29,21 @@ pub(crate) fn next_strip(frame_rows: u64, start: Place) -> Option<Place>
         if p.count >= 1024 {
             return Some(p);
         }
-        p = idle(frame_rows, p);
+        p = idle(r, p);
     }
     None
 }
 
 // After a strip that draws.
-pub(crate) fn drawn(frame_rows: u64, p: Place, lines: u64) -> Place
-    requires { (frame_rows ≤ 536870912) × ((lines ≤ 16383) × ((1 ≤ p.fuel) × InPlace p)) }
-    ensures { result ≡ drawn_from frame_rows p lines }
+pub(crate) fn drawn(r: Ruler, p: Place, lines: u64) -> Place
+    requires { (lines ≤ 16383) × (1 ≤ p.fuel) }
+    ensures { result ≡ drawn_from r.frame_rows p lines }
 {
     Place {
         fuel: p.fuel - 1,
         k: p.k + 1,
         left: p.left.saturating_sub(p.count / 1024),
-        count: p.count % 1024 + frame_rows,
+        count: p.count % 1024 + r.frame_rows,
         earlier: p.earlier + lines,
     }
 }

@@ -1,6 +1,6 @@
 -- A whole run: what it has written so far and what is still to come, until the end or a full buffer. D is docs/SPECIFICATION.md.
 -- Assumes nothing.
-use Rattle.std.specs.Prelude.{◌≡◌, Bool, true, false, cond, Err}
+use Rattle.std.specs.Prelude.{◌≡◌, Bool, true, false, cond, Ok, Err}
 use Rattle.std.proofs.Math.Path.{refl, sym, ap}
 use Rattle.std.proofs.Common.{subst, ◌∙◌, arith, drop_at, take_all, drop-drop, lt-ltb, le-ltb}
 use mathlib.Core.List.{List, [], ◌∷◌, ◌++◌, append_assoc, append-nil}
@@ -32,10 +32,9 @@ use Rattle.giving.proofs.Placed.{placed_start, placed_more, places_in, settled_i
 use Rattle.planner.specs.declared.types.Course.{Course}
 use Rattle.planner.specs.declared.types.Course.TheVariants as course
 use Rattle.planner.specs.Planner.{Planner}
-use Rattle.planner.specs.declared.types.Given.{Given}
-use Rattle.planner.specs.declared.types.Given.TheVariants as given
+use Rattle.planner.specs.declared.types.Stop.{Stop}
 use Rattle.planner.specs.declared.types.Step.{Step}
-use Rattle.planner.specs.Coming.{coming, coming_course, coming_from, counts_next, answer_in, left_in, StepGives, request_of}
+use Rattle.planner.specs.Coming.{coming, coming_course, coming_from, counts_next, left_in, StepGives, request_of}
 use Rattle.planner.specs.Planner.{Sound}
 use Rattle.planner.proofs.StepLaws.{gave_entry, gave_rest, gave_end, counts_at_end}
 
@@ -166,7 +165,7 @@ written_more false buf out at ps gs e w room i = let l = w.0 in (omega arith, (l
 
 module _ (kept : Bool) (k : Coming) (buf out : List ℕ) (p : Planner) (n : Counts) (at : ℕ) (ps : Places) (g : Going kept k buf out p n at ps) (s : Step) (i : StepGives p s) where
   -- one more entry
-  pub going_more : (e : Entry) → s.given ≡ given.Entry e → (out' : List ℕ) (n' : Counts) (at' : ℕ) (ps' : Places) → out' ≡ paste out at (entry_words e) 11 → n' ≡ counted_of n e → ps' ≡ placed_of ps at e → at' ≡ at + stride_of kept → at + 11 ≤ length out
+  pub going_more : (e : Entry) → s.given ≡ Ok e → (out' : List ℕ) (n' : Counts) (at' : ℕ) (ps' : Places) → out' ≡ paste out at (entry_words e) 11 → n' ≡ counted_of n e → ps' ≡ placed_of ps at e → at' ≡ at + stride_of kept → at + 11 ≤ length out
       → Going kept k buf out' s.planner n' at' ps'
   going_more e a out' n' at' ps' o m q l room =
       let gs = g.given in
@@ -248,23 +247,23 @@ module _ (plan : Plan) (buf ws out : List ℕ) (p : Planner) (n : Counts) (at : 
 
 -- the steps are over where no entry comes next, or where there is no room; then the bank is settled
 module _ (k : Coming) (buf ws out ws' : List ℕ) (p : Planner) (n : Counts) (at : ℕ) (ps : Places) (s : Step) (i : StepGives p s) where
-  pub steps_end : (kept : Bool) → Going kept k buf out p n at ps → (d : Given) → s.given ≡ d → (x : End) → answer_in d ≡ Err x → ws' ≡ cond kept (settled_of ws out ps) ws → (ws'' : List ℕ) → ws'' ≡ words_after ws' (left_in d) → (r : End) → r ≡ end_with n x.verdict
+  pub steps_end : (kept : Bool) → Going kept k buf out p n at ps → (x : Stop) → s.given ≡ Err x → ws' ≡ cond kept (settled_of ws out ps) ws → (ws'' : List ℕ) → ws'' ≡ words_after ws' (left_in (Err x)) → (r : End) → r ≡ end_with n x.end.verdict
       → StepsTo kept k buf ws out ws'' r
-  steps_end kept g d j x a b ws'' b' r e = by kept g b
+  steps_end kept g x j b ws'' b' r e = by kept g b
     where
-      t : ((coming p).entries ≡ []) × ((x ≡ (coming p).end) × ((coming p).left ≡ left_in d))
-      t = gave_end p s i d j x a
+      t : ((coming p).entries ≡ []) × ((x.end ≡ (coming p).end) × ((coming p).left ≡ left_in (Err x)))
+      t = gave_end p s i x j
 
       r_is : n ≡ p.counts → r ≡ (coming p).end
-      r_is m = e ∙ ap (λ (y : Counts). end_with y x.verdict) m ∙ ap (λ (y : End). end_with p.counts y.verdict) t.1.0 ∙ sym (counts_at_end p t.0)
+      r_is m = e ∙ ap (λ (y : Counts). end_with y x.end.verdict) m ∙ ap (λ (y : End). end_with p.counts y.verdict) t.1.0 ∙ sym (counts_at_end p t.0)
 
       by : (kept : Bool) → Going kept k buf out p n at ps → ws' ≡ cond kept (settled_of ws out ps) ws → StepsTo kept k buf ws out ws'' r
       by true g b = λ plan q.
           let h = subst (λ (c : Coming). Going true c buf out p n at ps) q g in
-          (r_is g.same ∙ end_end plan buf ws out p n at ps h t.0, (b' ∙ ap (λ (vs : List ℕ). words_after vs (left_in d)) b ∙ ap (words_after (settled_of ws out ps)) (sym t.1.1) ∙ end_bank plan buf ws out p n at ps h t.0, end_buffer plan buf ws out p n at ps h t.0))
+          (r_is g.same ∙ end_end plan buf ws out p n at ps h t.0, (b' ∙ ap (λ (vs : List ℕ). words_after vs (left_in (Err x))) b ∙ ap (words_after (settled_of ws out ps)) (sym t.1.1) ∙ end_bank plan buf ws out p n at ps h t.0, end_buffer plan buf ws out p n at ps h t.0))
       by false g b = r_is g.same ∙ sym g.end
 
-  pub steps_full : (kept : Bool) → Going kept k buf out p n at ps → (e : Entry) → s.given ≡ given.Entry e → length out - at < 11 → ws' ≡ cond kept (settled_of ws out ps) ws → (r : End) → r ≡ end_with n verdict.Full → StepsTo kept k buf ws out ws' r
+  pub steps_full : (kept : Bool) → Going kept k buf out p n at ps → (e : Entry) → s.given ≡ Ok e → length out - at < 11 → ws' ≡ cond kept (settled_of ws out ps) ws → (r : End) → r ≡ end_with n verdict.Full → StepsTo kept k buf ws out ws' r
   steps_full true g e j l b r a =
       let some = gave_entry p s i e j in
       λ plan q.

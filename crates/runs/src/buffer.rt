@@ -12,11 +12,11 @@ ghost use Rattle.runs.specs.Ran.{RanIs, StepsTo, stride_of};
 use giving::Places;
 use object::Verdict;
 use plan::End;
-use planner::{Course, Given, Planner};
+use planner::{Course, Planner};
 use request::Request;
 use starts::fresh;
 
-// The words from one entry to the next.
+// The words from one entry to the next. `kept` is no const parameter: with two instances of `steps` the compiler joins the step with neither, and a run takes 2.6 to 5.6 times as long (tried and measured).
 fn stride(kept: bool) -> usize
     ensures { result ≡ stride_of kept }
 {
@@ -42,12 +42,10 @@ fn steps(start: Planner, bank: &mut [u64], kept: bool, plan: &mut [u64]) -> End
     let mut places = giving::no_places();
     let mut p = start;
     let mut n = start.counts;
-    let mut verdict = Verdict::Full;
     loop {
         let s = p.step();
-        let given = s.given;
-        match given {
-            Given::Entry(entry) => {
+        match s.given {
+            Ok(entry) => {
                 let at = n.entries as usize * stride;
                 if plan.len() - at < 11 {
                     break;
@@ -57,20 +55,17 @@ fn steps(start: Planner, bank: &mut [u64], kept: bool, plan: &mut [u64]) -> End
                 places = g.places;
                 p = s.planner;
             }
-            Given::Refused(size, end) => {
+            Err(stop) => {
                 settled(kept, &mut *bank, places, plan);
-                settling::set_words(&mut *bank, size);
-                let verdict = end.verdict;
-                return words::end_of(n, verdict);
-            }
-            Given::End(end) => {
-                verdict = end.verdict;
-                break;
+                if let Some(size) = stop.size {
+                    settling::set_words(&mut *bank, size);
+                }
+                return words::end_of(n, stop.end.verdict);
             }
         }
     }
     settled(kept, &mut *bank, places, plan);
-    words::end_of(n, verdict)
+    words::end_of(n, Verdict::Full)
 }
 
 // All of a request's steps: the one caller of `fresh` and `steps`, so that the compiler joins them and all that they call. A plan without an entry needs no step; nor does a copy plan where entries are only counted, and `steps` counts scaled plans.

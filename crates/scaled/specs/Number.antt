@@ -1,9 +1,11 @@
 -- Bounds of products and quotients, and a word's units.
 -- Assumes nothing.
-use Rattle.std.specs.Prelude.{Bool, true, false, cond, ◌≡◌, ℕ, zero, suc, ◌+◌, ◌-◌, ◌*◌, ◌/◌, ◌%◌, ◌≤◌, ◌^◌, ℤ, pos, neg_ℤ, ◌+ℤ◌, ◌*ℤ◌, ◌≤ℤ◌}
-use Rattle.std.proofs.Common.{ap, ◌∙◌, arith, mul-le-mul_left, mul-div_cancel, div-mul-le_self, lit<, lit≤, pow_pos, pow-add}
+use Rattle.std.specs.Prelude.{Bool, true, false, cond, ◌≡◌, ℕ, zero, suc, ◌+◌, ◌-◌, ◌*◌, ◌/◌, ◌%◌, ◌<◌, ◌≤◌, ◌^◌, ℤ, pos, neg_ℤ, ◌+ℤ◌, ◌*ℤ◌, ◌≤ℤ◌}
+use Rattle.std.specs.Int.{div_ceil}
+use Rattle.std.proofs.Common.{sym, ap, ◌∙◌, arith, mul-le-mul_left, mul-div_cancel, div-mul-le_self, lit<, lit≤, pow_pos, pow-add}
 use Rattle.std.specs.Int.Bits.{bit_and}
-use Rattle.std.proofs.lemmas.Nat.{and_mask}
+use Rattle.std.proofs.lemmas.Nat.{and_mask, div-mul-add}
+use Rattle.std.proofs.lemmas.Grind.{div_ceil_times}
 use Rattle.signed.specs.Diff.{zdiff, zarith, add_is, →eq}
 use Rattle.signed.specs.Floor.{floor_div, parts}
 
@@ -41,3 +43,12 @@ quotient_le n x w h k = omega (arith, div-mul-le_self x w, mul-le-mul_left (x / 
 pub chosen_le : (t : Bool) {a b n : ℕ} → a ≤ n → b ≤ n → cond t a b ≤ n
 chosen_le true h k = h
 chosen_le false h k = k
+
+-- the library's quotient that is rounded up
+pub ceil_is : (a b : ℕ) → 0 < b → div_ceil a b ≡ (a + (b - 1)) / b
+ceil_is a b h = let t = div_ceil_times a b h in at (div_ceil a b) t.0 t.1
+  where
+    at : (q : ℕ) → a ≤ q * b → q * b < a + b → q ≡ (a + (b - 1)) / b
+    at q l u =
+        let e : a + (b - 1) ≡ q * b + (a + (b - 1) - q * b) = omega arith in
+        sym (ap (λ (n : ℕ). n / b) e ∙ div-mul-add q b (a + (b - 1) - q * b) (omega arith))

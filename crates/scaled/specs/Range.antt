@@ -9,13 +9,22 @@ use Rattle.object.specs.declared.types.ObjBg.{ObjBg}
 use Rattle.measures.specs.declared.types.Quarters.{Quarters}
 use Rattle.object.specs.declared.types.Scissor.{Scissor}
 use Rattle.measures.specs.Measure.{quarters, thirty_seconds, edge, in_image}
-use Rattle.measures.specs.Range.{Below}
+use Rattle.measures.specs.Range.{Below, Around}
 use Rattle.checks.specs.Known.{InRange, PassedScaled}
 use Rattle.plan.specs.declared.types.Clip.{Clip}
 use Rattle.plan.specs.declared.types.Start.{Start}
 use Rattle.plan.specs.declared.types.Scaled.{Scaled}
 use Rattle.plan.specs.Scaled.{clip_of, scaled_empty, start_of, scaled_of, slices_bad}
 use Rattle.plan.specs.Sound.{SoundScaled}
+
+-- a frame position, also one that a flipped frame has moved, and an extent before the scissor cuts it
+pub record Position (x : ℤ) : Type 0 where
+  pub low : neg_ℤ (pos (2 ^ 15)) ≤ℤ x
+  pub high : x ≤ℤ pos (2 ^ 18)
+
+pub record Extent (z : ℤ) : Type 0 where
+  pub low : neg_ℤ (pos 4) ≤ℤ z
+  pub high : z ≤ℤ pos 65535
 
 -- an object that passed the checks, whatever the scissor
 pub record Usable (bg : ObjBg) : Type 0 where
@@ -61,8 +70,7 @@ pub record StartIn (bg : ObjBg) (i : Start) : Type 0 where
   pub image_y : Below 20 i.image_y.0
   pub carry : i.carry ≤ 2 ^ 23
   pub wrap : i.wrap ≤ 2 ^ 26
-  pub low : neg_ℤ (pos (2 ^ 33)) ≤ℤ i.origin.0
-  pub high : i.origin.0 ≤ℤ pos (2 ^ 33)
+  pub origin : Around 33 i.origin.0
 
 pub record StartIs (bg : ObjBg) (c : Clip) (i : Start) : Type 0 where
   pub is : i ≡ start_of bg c

@@ -1,12 +1,12 @@
 -- The range of a start.
 -- Assumes nothing.
-use Rattle.std.specs.Prelude.{cond, ℕ, ◌+◌, ◌*◌, ◌/◌, ◌%◌, ◌^◌, ◌<◌, ◌≤◌, ℤ, pos, neg_ℤ, ◌≤ℤ◌}
+use Rattle.std.specs.Prelude.{cond, ℕ, ◌+◌, ◌*◌, ◌/◌, ◌%◌, ◌^◌, ◌<◌, ◌≤◌, ℤ}
 use Rattle.std.proofs.Common.{arith, div-mul-le_self}
 use Rattle.std.proofs.Math.Nat.{mod-lt}
 use Rattle.signed.specs.Diff.{zdiff, zarith}
 use Rattle.object.specs.declared.types.ObjBg.{ObjBg}
 use Rattle.measures.specs.Measure.{quarters, thirty_seconds, of_rows, in_image, sampled_by}
-use Rattle.measures.specs.Range.{Within}
+use Rattle.measures.specs.Range.{Within, Around}
 use Rattle.plan.specs.declared.types.Clip.{Clip}
 use Rattle.plan.specs.Scaled.{start_of}
 use Rattle.scaled.specs.Number.{sampled_le, quotient_le}
@@ -16,9 +16,9 @@ use Rattle.scaled.specs.Strip.{origin_of}
 position_le : (p cut scale : ℕ) → p ≤ 65535 → cut ≤ 65535 → scale ≤ 65535 → p + sampled_by cut scale ≤ 2 ^ 26
 position_le p cut scale h k l = omega (arith, sampled_le cut scale l)
 
-pub origin_in : (o : ℤ) (down back : ℕ) → Within 31 o → down ≤ 2 ^ 31 → back ≤ 2 ^ 31 → (neg_ℤ (pos (2 ^ 33)) ≤ℤ origin_of o down back) × (origin_of o down back ≤ℤ pos (2 ^ 33))
+pub origin_in : (o : ℤ) (down back : ℕ) → Within 31 o → down ≤ 2 ^ 31 → back ≤ 2 ^ 31 → Around 33 (origin_of o down back)
 unfolding origin_of
-origin_in o down back r h k = simp zdiff (omega zarith)
+origin_in o down back r h k = record { low = simp zdiff (omega zarith); high = simp zdiff (omega zarith) }
 
 module _ (bg : ObjBg) (c : Clip) (u : Usable bg) (f : Filled c) where
   abbrev w : ℕ
@@ -50,14 +50,11 @@ module _ (bg : ObjBg) (c : Clip) (u : Usable bg) (f : Filled c) where
 
   pub start_in : StartIn bg (start_of bg c)
   unfolding start_of origin_of
-  start_in =
-      let o = origin_in bg.image_y_orig.0 (of_rows (x / w)) (y / h * h) u.range.image_y_orig (omega (arith, carry_le)) (omega (arith, wrapped_le)) in
-      record {
-        image_x = mod-lt x (omega (arith, w_least));
-        image_x' = let m : x % w < w = mod-lt x (omega (arith, w_least)) in record { low = omega zarith; high = omega (zarith, extent_le u.range.image_w) };
-        image_y = let m : y % h < h = mod-lt y (omega (arith, h_least)) in record { low = omega zarith; high = omega (zarith, extent_le u.range.image_h) };
-        carry = carry_le;
-        wrap = quotient_le (2 ^ 26) y h (omega (arith, y_le)) h_least;
-        low = o.0;
-        high = o.1;
-      }
+  start_in = record {
+    image_x = mod-lt x (omega (arith, w_least));
+    image_x' = let m : x % w < w = mod-lt x (omega (arith, w_least)) in record { low = omega zarith; high = omega (zarith, extent_le u.range.image_w) };
+    image_y = let m : y % h < h = mod-lt y (omega (arith, h_least)) in record { low = omega zarith; high = omega (zarith, extent_le u.range.image_h) };
+    carry = carry_le;
+    wrap = quotient_le (2 ^ 26) y h (omega (arith, y_le)) h_least;
+    origin = origin_in bg.image_y_orig.0 (of_rows (x / w)) (y / h * h) u.range.image_y_orig (omega (arith, carry_le)) (omega (arith, wrapped_le));
+  }

@@ -1,10 +1,10 @@
 // The frame clipped by the scissor.
 ghost use Rattle.std.specs.Prelude.{◌≡◌, ◌+◌, ◌≤◌, ◌^◌, pos, neg_ℤ, ◌≤ℤ◌};
-ghost use Rattle.measures.specs.Measure.{quarters, in_quarters};
+ghost use Rattle.measures.specs.Measure.{quarters, edge, in_quarters};
 ghost use Rattle.measures.specs.Range.{Below, Within};
 ghost use Rattle.checks.specs.Known.{PassedScaled};
 ghost use Rattle.plan.specs.Scaled.{scaled_empty};
-ghost use Rattle.scaled.specs.Range.{ClipIs};
+ghost use Rattle.scaled.specs.Range.{Position, Extent, ClipIs};
 ghost use Rattle.scaled.specs.Clip.{greatest, removed, kept, lower, moved, near_cut, far_cut, AxisIs, Across, Down};
 
 use measures::{Quarters, Scale};
@@ -37,54 +37,51 @@ fn removed_of(frame: Quarters, image: Quarters, scale: Scale) -> Quarters
     ensures value { result ≡ in_quarters (pos (removed (quarters frame) (quarters image) scale.0)) }
     ensures result_bound { quarters result ≤ quarters frame + 4 }
 {
-    let max = max_of(image, scale);
-    measures::extent(frame.0 - max.0)
+    measures::extent(frame.0 - max_of(image, scale).0)
 }
 
 fn height_of(frame: Quarters, image: Quarters, scale: Scale) -> Quarters
     requires { (Below 16 frame.0) × ((Below 16 image.0) × (1 ≤ scale.0)) }
     ensures value { result ≡ in_quarters (lower (quarters frame) (quarters image) scale.0) }
-    ensures pos_bound { (neg_ℤ (pos 4) ≤ℤ result.0) × (result.0 ≤ℤ pos 65535) }
+    ensures extent { Extent result.0 }
 {
-    let max = max_of(image, scale);
-    if frame.0 <= max.0 { frame } else { max }
+    Quarters(frame.0.min(max_of(image, scale).0))
 }
 
 // The Rust's `left` and `top`.
-fn near_cut(x: Quarters, ul: Quarters) -> Quarters
-    requires { (Below 12 ul.0) × ((neg_ℤ (pos (2 ^ 15)) ≤ℤ x.0) × (x.0 ≤ℤ pos (2 ^ 18))) }
-    ensures value { result ≡ in_quarters (pos (near_cut x.0 (quarters ul))) }
+fn near_cut(x: Quarters, ul: i32) -> Quarters
+    requires { (Below 10 ul) × Position x.0 }
+    ensures value { result ≡ in_quarters (pos (near_cut x.0 (edge ul))) }
     ensures result_bound { quarters result ≤ 36863 }
 {
-    measures::extent(ul.0 - x.0)
+    measures::extent(measures::edge(ul).0 - x.0)
 }
 
 // The Rust's `right` and `bottom`.
-fn far_cut(x: Quarters, extent: Quarters, lr: Quarters) -> Quarters
-    requires below { (Below 12 lr.0) × ((neg_ℤ (pos (2 ^ 15)) ≤ℤ x.0) × (x.0 ≤ℤ pos (2 ^ 18))) }
-    requires pos_bound { (neg_ℤ (pos 4) ≤ℤ extent.0) × (extent.0 ≤ℤ pos 65535) }
-    ensures value { result ≡ in_quarters (pos (far_cut x.0 extent.0 (quarters lr))) }
+fn far_cut(x: Quarters, extent: Quarters, lr: i32) -> Quarters
+    requires below { Below 10 lr }
+    requires position { Position x.0 }
+    requires extent_in { Extent extent.0 }
+    ensures value { result ≡ in_quarters (pos (far_cut x.0 extent.0 (edge lr))) }
     ensures result_bound { quarters result ≤ 2 ^ 19 }
 {
-    measures::extent(extent.0 - lr.0 + x.0)
+    measures::extent(extent.0 - measures::edge(lr).0 + x.0)
 }
 
 // An extent at `x` between two edges of the scissor.
-fn cut_axis(x: Quarters, extent: Quarters, ul: Quarters, lr: Quarters) -> Axis
-    requires below { (Below 12 ul.0) × Below 12 lr.0 }
-    requires pos_bound { (neg_ℤ (pos (2 ^ 15)) ≤ℤ x.0) × (x.0 ≤ℤ pos (2 ^ 18)) }
-    requires pos_bound_2 { (neg_ℤ (pos 4) ≤ℤ extent.0) × (extent.0 ≤ℤ pos 65535) }
-    ensures { AxisIs x.0 extent.0 (quarters ul) (quarters lr) result }
+fn cut_axis(x: Quarters, extent: Quarters, ul: i32, lr: i32) -> Axis
+    requires below { (Below 10 ul) × Below 10 lr }
+    requires position { Position x.0 }
+    requires extent_in { Extent extent.0 }
+    ensures { AxisIs x.0 extent.0 (edge ul) (edge lr) result }
 {
     let near = near_cut(x, ul);
     let far = far_cut(x, extent, lr);
-    let start = measures::extent(x.0 + near.0);
-    let rest = measures::extent(extent.0 - (near.0 + far.0));
     Axis {
         near,
         far,
-        start,
-        rest,
+        start: measures::extent(x.0 + near.0),
+        rest: measures::extent(extent.0 - (near.0 + far.0)),
     }
 }
 
@@ -92,7 +89,7 @@ fn cut_axis(x: Quarters, extent: Quarters, ul: Quarters, lr: Quarters) -> Axis
 fn x_of(frame_x: Quarters, flip: bool, removed_w: Quarters) -> Quarters
     requires { (Within 15 frame_x.0) × Below 17 removed_w.0 }
     ensures value { result ≡ in_quarters (moved frame_x.0 flip (quarters removed_w)) }
-    ensures pos_bound { (neg_ℤ (pos (2 ^ 15)) ≤ℤ result.0) × (result.0 ≤ℤ pos (2 ^ 18)) }
+    ensures position { Position result.0 }
 {
     if flip {
         Quarters(frame_x.0 + removed_w.0)
@@ -105,7 +102,7 @@ fn width_of(frame_w: Quarters, removed_w: Quarters) -> Quarters
     requires below { (Below 16 frame_w.0) × (Below 17 removed_w.0) }
     requires removed_w_bound { quarters removed_w ≤ quarters frame_w + 4 }
     ensures value { result ≡ in_quarters (kept (quarters frame_w) (quarters removed_w)) }
-    ensures pos_bound { (neg_ℤ (pos 4) ≤ℤ result.0) × (result.0 ≤ℤ pos 65535) }
+    ensures extent { Extent result.0 }
 {
     Quarters(frame_w.0 - removed_w.0)
 }
@@ -117,12 +114,7 @@ fn across(bg: ObjBg, flip: bool, scissor: Scissor) -> Axis
     let removed_w = removed_of(bg.frame_w, bg.image_w, bg.scale_w);
     let x = x_of(bg.frame_x, flip, removed_w);
     let width = width_of(bg.frame_w, removed_w);
-    cut_axis(
-        x,
-        width,
-        measures::edge(scissor.ulx),
-        measures::edge(scissor.lrx),
-    )
+    cut_axis(x, width, scissor.ulx, scissor.lrx)
 }
 
 fn down(bg: ObjBg, scissor: Scissor) -> Axis
@@ -130,12 +122,7 @@ fn down(bg: ObjBg, scissor: Scissor) -> Axis
     ensures { Down bg scissor result }
 {
     let height = height_of(bg.frame_h, bg.image_h, bg.scale_h);
-    cut_axis(
-        bg.frame_y,
-        height,
-        measures::edge(scissor.uly),
-        measures::edge(scissor.lry),
-    )
+    cut_axis(bg.frame_y, height, scissor.uly, scissor.lry)
 }
 
 pub fn clip_of(bg: ObjBg, scissor: Scissor) -> Clip
@@ -145,22 +132,15 @@ pub fn clip_of(bg: ObjBg, scissor: Scissor) -> Clip
     let flip = bg.image_flip % 2 == 1;
     let horizontal = across(bg, flip, scissor);
     let vertical = down(bg, scissor);
-    let left = horizontal.near;
-    let top = vertical.near;
-    let right = horizontal.far;
-    let x = horizontal.start;
-    let y = vertical.start;
-    let width = horizontal.rest;
-    let height = vertical.rest;
     Clip {
         flip,
-        left,
-        top,
-        right,
-        x,
-        y,
-        width,
-        height,
+        left: horizontal.near,
+        top: vertical.near,
+        right: horizontal.far,
+        x: horizontal.start,
+        y: vertical.start,
+        width: horizontal.rest,
+        height: vertical.rest,
     }
 }
 

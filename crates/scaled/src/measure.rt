@@ -1,15 +1,9 @@
-// Numbers of one measure: a choice and a sum.
-ghost use Rattle.std.specs.Prelude.{cond, ◌≡◌, ◌+ℤ◌};
+// A sum of image positions.
+ghost use Rattle.std.specs.Prelude.{◌≡◌, ◌+ℤ◌};
 ghost use Rattle.measures.specs.Measure.{in_thirty_seconds};
 ghost use Rattle.measures.specs.Range.{Below};
 
-use measures::{Quarters, ThirtySeconds};
-
-pub(crate) fn chosen(test: bool, yes: Quarters, no: Quarters) -> Quarters
-    ensures { result ≡ cond test yes no }
-{
-    if test { yes } else { no }
-}
+use measures::ThirtySeconds;
 
 pub(crate) fn sum(a: ThirtySeconds, b: ThirtySeconds) -> ThirtySeconds
     requires { (Below 40 a.0) × Below 40 b.0 }

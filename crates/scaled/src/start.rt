@@ -5,7 +5,7 @@ ghost use Rattle.measures.specs.Range.{Below, Within};
 ghost use Rattle.scaled.specs.Range.{Usable, Filled, StartIs};
 ghost use Rattle.scaled.specs.Strip.{origin_of};
 
-use crate::measure::{chosen, sum};
+use crate::measure::sum;
 use measures::{Quarters, Scale, ThirtySeconds};
 use object::ObjBg;
 use plan::{Clip, Start};
@@ -50,19 +50,17 @@ pub fn start_of(bg: ObjBg, c: Clip) -> Start
 {
     let source_w = measures::in_image(bg.image_w);
     let source_h = measures::in_image(bg.image_h);
-    let x = position_after(bg.image_x, chosen(c.flip, c.right, c.left), bg.scale_w);
+    let cut = if c.flip { c.right } else { c.left };
+    let x = position_after(bg.image_x, cut, bg.scale_w);
     let carry = wraps(x, source_w);
     let down = measures::of_rows(carry as i64);
     let y = sum(position_after(bg.image_y, c.top, bg.scale_h), down);
     let wrap = wraps(y, source_h);
     let back = measures::of_thirty_seconds(wrap * measures::thirty_seconds(source_h));
-    let image_x = rest(x, source_w);
-    let image_y = rest(y, source_h);
-    let origin = origin_of(bg.image_y_orig, down, back);
     Start {
-        image_x,
-        image_y,
-        origin,
+        image_x: rest(x, source_w),
+        image_y: rest(y, source_h),
+        origin: origin_of(bg.image_y_orig, down, back),
         carry,
         wrap,
     }

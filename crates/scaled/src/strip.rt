@@ -34,7 +34,7 @@ fn bilerp_of(mode: u32) -> u64
     ensures value { result ≡ mode / 8 % 2 }
     ensures upper_bound { result ≤ 1 }
 {
-    ((mode >> 3) & 1) as u64
+    u64::from((mode >> 3) & 1)
 }
 
 // The thirty-seconds of a texel in one 64-bit word.
@@ -90,8 +90,7 @@ fn line_of(bg: ObjBg, bilerp: u64) -> u64
     let source_w = measures::in_image(bg.image_w);
     let slice = slice_width(bg.frame_w, bg.scale_w, bilerp);
     let shift = shift_of(bg.image_siz);
-    let max_slice = max_slice_of(bg.image_siz, slice, source_w);
-    (max_slice + (shift - 1)) / shift + 1
+    max_slice_of(bg.image_siz, slice, source_w).div_ceil(shift) + 1
 }
 
 // A row's bytes in whole words, up to a position.
@@ -106,11 +105,7 @@ fn bytes_of(x: ThirtySeconds, siz: u8) -> u64
 fn split_of(source_w: ThirtySeconds, end: ThirtySeconds) -> u64
     ensures { result ≡ split_of (thirty_seconds source_w) (thirty_seconds end) }
 {
-    if measures::thirty_seconds(source_w) <= measures::thirty_seconds(end) {
-        1
-    } else {
-        0
-    }
+    u64::from(measures::thirty_seconds(source_w) <= measures::thirty_seconds(end))
 }
 
 // The texture column of the frame's left side, which in a flipped frame is the image's right.
@@ -133,13 +128,11 @@ fn rows_of(bg: ObjBg, bilerp: u64) -> Rows
     let line = line_of(bg, bilerp);
     let capacity = capacity::scaled_capacity(bg.image_fmt, bg.image_siz);
     let image_rows = (capacity / line).saturating_sub(bilerp);
-    let frame_rows = measures::lines_at(image_rows, bg.scale_h);
-    let source_rows = measures::whole_texels(measures::in_image(bg.image_h));
     Rows {
         line,
         image_rows,
-        frame_rows,
-        source_rows,
+        frame_rows: measures::lines_at(image_rows, bg.scale_h),
+        source_rows: measures::whole_texels(measures::in_image(bg.image_h)),
     }
 }
 
@@ -151,18 +144,14 @@ fn columns_of(bg: ObjBg, bilerp: u64, c: Clip, i: Start) -> Columns
     ensures { ColumnsAre bg bilerp c i result }
 {
     let source_w = measures::in_image(bg.image_w);
-    let image_x = i.image_x;
     let slice = slice_width(c.width, bg.scale_w, bilerp);
-    let split = split_of(source_w, sum(image_x, slice));
-    let stride = bytes_of(source_w, bg.image_siz);
-    let x_offset = bytes_of(image_x, bg.image_siz);
+    let column = column_of(i.image_x, bg.image_siz);
     let image_width = measures::sampled_by(c.width, bg.scale_w);
-    let s = s_of(c.flip, column_of(image_x, bg.image_siz), image_width);
     Columns {
-        split,
-        stride,
-        x_offset,
-        s,
+        split: split_of(source_w, sum(i.image_x, slice)),
+        stride: bytes_of(source_w, bg.image_siz),
+        x_offset: bytes_of(i.image_x, bg.image_siz),
+        s: s_of(c.flip, column, image_width),
     }
 }
 
@@ -175,21 +164,15 @@ pub fn scaled_of(bg: ObjBg, mode: u32, address: u64, c: Clip, i: Start) -> Scale
     let bilerp = bilerp_of(mode);
     let rows = rows_of(bg, bilerp);
     let columns = columns_of(bg, bilerp, c, i);
-    let palette = signed::low8(bg.image_pal);
-    let x = c.x;
-    let x_end = Quarters(c.x.0 + c.width.0);
-    let scale_w = bg.scale_w;
-    let scale_h = bg.scale_h;
-    let s = columns.s;
     Scaled {
-        fmt: bg.image_fmt as u64,
-        siz: bg.image_siz as u64,
-        palette: palette as u64,
+        fmt: bg.image_fmt.into(),
+        siz: bg.image_siz.into(),
+        palette: signed::low8(bg.image_pal).into(),
         address,
-        x,
-        x_end,
-        scale_w,
-        scale_h,
+        x: c.x,
+        x_end: Quarters(c.x.0 + c.width.0),
+        scale_w: bg.scale_w,
+        scale_h: bg.scale_h,
         bilerp,
         split: columns.split,
         source_rows: rows.source_rows,
@@ -198,7 +181,7 @@ pub fn scaled_of(bg: ObjBg, mode: u32, address: u64, c: Clip, i: Start) -> Scale
         frame_rows: rows.frame_rows,
         stride: columns.stride,
         x_offset: columns.x_offset,
-        s,
+        s: columns.s,
     }
 }
 

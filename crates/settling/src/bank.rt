@@ -1,4 +1,5 @@
 // What entries set in the words of a bank that a host lends: an entry by itself, or the last of each kind once a plan is written.
+// The bank is no array, since each promise here holds of a bank of any length: a type of 136 words would ask more of callers.
 ghost use Rattle.std.specs.Prelude.{◌≡◌, ◌+◌, ◌≤◌, ◌<◌, length};
 ghost use Rattle.plan.specs.Sound.{Narrow};
 ghost use Rattle.giving.specs.Host.{tile_in, bounds_in, words_step};
@@ -12,7 +13,7 @@ use words::put;
 // A tile's words: its fields in their order.
 const TILE: usize = 17;
 
-// Sets all of a tile but its bounds, width and height; nothing where there is no such tile.
+// Sets all of a tile but its bounds, width and height; nothing where there is no such tile. The numbers are an entry's own in every definition, so they are parameters and no struct.
 fn set_tile(
     bank: &mut [u64],
     index: u64,
@@ -40,8 +41,8 @@ fn set_bounds(bank: &mut [u64], index: u64, uls: u64, ult: u64, lrs: u64, lrt: u
     ensures { bank.new ≡ bounds_in bank.old index uls ult lrs lrt }
 {
     if index < (bank.len() / TILE) as u64 {
-        let width = texels(uls as u16, lrs as u16) as u64;
-        let height = texels(ult as u16, lrt as u16) as u64;
+        let width = u64::from(texels(uls as u16, lrs as u16));
+        let height = u64::from(texels(ult as u16, lrt as u16));
         let numbers = [uls, ult, lrs, lrt, width, height];
         put(&mut *bank, index as usize * TILE, &numbers);
     }
@@ -76,10 +77,8 @@ pub fn set_words(bank: &mut [u64], e: Entry)
             ult,
             lrs,
             lrt,
-        } => {
-            set_bounds(&mut *bank, index, uls, ult, lrs, lrt);
         }
-        Entry::Load {
+        | Entry::Load {
             index,
             uls,
             ult,
@@ -89,8 +88,7 @@ pub fn set_words(bank: &mut [u64], e: Entry)
         } => {
             set_bounds(&mut *bank, index, uls, ult, lrs, lrt);
         }
-        Entry::Image { .. } => {}
-        Entry::Rect { .. } => {}
+        Entry::Image { .. } | Entry::Rect { .. } => {}
     }
 }
 
@@ -129,7 +127,7 @@ pub fn bounds_at(bank: &mut [u64], index: u64, plan: &[u64], place: usize)
     );
 }
 
-// The same where there is such an entry: 0 is no place.
+// The same where there is such an entry: 0 is no place. Not one function with the next: over a closure its contract would be longer than both.
 fn settle_tile(bank: &mut [u64], index: u64, plan: &[u64], place: usize)
     requires { 1 ≤ place → place + 9 < length plan.now }
     ensures { bank.new ≡ tile_settled bank.old index plan.now place }

@@ -1,8 +1,9 @@
 -- The text so far: lines in front of what one call on the rest would write.
 -- Assumes nothing.
-use Rattle.std.specs.Prelude.{Err}
+use Rattle.std.specs.Prelude.{Ok, Err, Some, None}
+use Rattle.std.specs.Option.{is_some}
 use mathlib.Core.Path.{◌≡◌, refl, sym, ap, ◌∙◌}
-use mathlib.Core.Bool.{true, false}
+use mathlib.Core.Bool.{true}
 use mathlib.Core.List.{List, [], ◌∷◌, ◌++◌, append_assoc, append-nil}
 use Prim.Native.Nat.{ℕ, ◌+◌, ◌-◌, ◌≤◌, ◌<◌}
 use native.Mathlib.Omega.{arith}
@@ -12,11 +13,9 @@ use Rattle.plan.specs.declared.types.Entry.{Entry}
 use Rattle.plan.specs.declared.types.End.{End}
 use Rattle.plan.specs.Steps.{Coming, next_of}
 use Rattle.planner.specs.Planner.{Planner}
-use Rattle.planner.specs.declared.types.Given.{Given}
-use Rattle.planner.specs.declared.types.Given.TheVariants as given
+use Rattle.planner.specs.declared.types.Stop.{Stop}
 use Rattle.planner.specs.declared.types.Step.{Step}
-use Rattle.planner.specs.Coming.{coming, answer_in, StepGives}
-use Rattle.planner.specs.Planner.{Sound}
+use Rattle.planner.specs.Coming.{coming, StepGives}
 use Rattle.planner.proofs.StepLaws.{gave_entry, gave_rest, gave_end}
 use Rattle.show.specs.declared.text.Chunk as code
 use Rattle.lines.specs.Text.{entry_text, end_text}
@@ -65,7 +64,7 @@ going_start p out =
 
 module _ (k : Coming) (out₀ out : List ℕ) (p : Planner) (at : ℕ) (g : Going k out₀ out p at) where
   -- the call ends with this chunk
-  closes : (c : Chunk) → chunk (length out₀) k ≡ c → (out' : List ℕ) (r : code.Chunk) → r.count ≡ length c.text → r.done ≡ c.done → out' ≡ with_text out₀ 0 c.text → coming r.planner ≡ c.rest → ChunkIs k out₀ out' r
+  closes : (c : Chunk) → chunk (length out₀) k ≡ c → (out' : List ℕ) (r : code.Chunk) → r.count ≡ length c.text → is_some r.end ≡ c.done → out' ≡ with_text out₀ 0 c.text → coming r.planner ≡ c.rest → ChunkIs k out₀ out' r
   closes c e out' r n d o m =
       record {
         count = n ∙ ap (λ (x : Chunk). length x.text) (sym e);
@@ -75,14 +74,14 @@ module _ (k : Coming) (out₀ out : List ℕ) (p : Planner) (at : ℕ) (g : Goin
       }
 
   -- no room for a line
-  pub going_full : length out - at < 128 → ChunkIs k out₀ out (record { planner = p; count = at; done = false })
+  pub going_full : length out - at < 128 → ChunkIs k out₀ out (record { planner = p; count = at; end = None })
   going_full l =
       let few : length out₀ - at < 128 = omega (arith, g.same) in
       closes
       (and_then g.text (nothing (coming p)))
       (g.whole ∙ ap (and_then g.text) (chunk_none (length out₀ - at) (coming p).entries (coming p).left (coming p).end few))
       out
-      (record { planner = p; count = at; done = false })
+      (record { planner = p; count = at; end = None })
       (g.place ∙ ap length (sym (append-nil g.text)))
       refl
       (g.stands ∙ ap (with_text out₀ 0) (sym (append-nil g.text)))
@@ -98,7 +97,7 @@ module _ (k : Coming) (out₀ out : List ℕ) (p : Planner) (at : ℕ) (g : Goin
         let z : at ≡ 0 + length g.text = omega (arith, g.place) in
         q.is ∙ (λ j. with_text (g.stands j) (z j) t) ∙ with_after out₀ 0 g.text (omega (arith, g.place, g.fits)) t
 
-    pub going_more : (e : Entry) → s.given ≡ given.Entry e → (out' : List ℕ) (at' : ℕ) → PutIs out at (entry_text e) out' at' → length out' ≡ length out → Going k out₀ out' s.planner at'
+    pub going_more : (e : Entry) → s.given ≡ Ok e → (out' : List ℕ) (at' : ℕ) → PutIs out at (entry_text e) out' at' → length out' ≡ length out → Going k out₀ out' s.planner at'
     going_more e a out' at' q n =
         let c = coming p in
         let t = entry_text e in
@@ -116,11 +115,11 @@ module _ (k : Coming) (out₀ out : List ℕ) (p : Planner) (at : ℕ) (g : Goin
           whole = g.whole ∙ ap (and_then g.text) first ∙ ap (λ (x : List ℕ). record { text = x; rest = (chunk (length out₀ - at') (coming s.planner)).rest; done = (chunk (length out₀ - at') (coming s.planner)).done }) (sym (append_assoc g.text t (chunk (length out₀ - at') (coming s.planner)).text));
         }
 
-    pub going_end : (w : Given) → s.given ≡ w → (e : End) → answer_in w ≡ Err e → (out' : List ℕ) (at' : ℕ) → PutIs out at (end_text e) out' at' → ChunkIs k out₀ out' (record { planner = s.planner; count = at'; done = true })
-    going_end w a e b out' at' q =
+    pub going_end : (x : Stop) → s.given ≡ Err x → (out' : List ℕ) (at' : ℕ) → PutIs out at (end_text x.end) out' at' → ChunkIs k out₀ out' (record { planner = s.planner; count = at'; end = Some x.end })
+    going_end x a out' at' q =
         let c = coming p in
-        let h = gave_end p s i w a e b in
-        let t = end_text e in
+        let h = gave_end p s i x a in
+        let t = end_text x.end in
         let whole : chunk (length out₀) k ≡ and_then g.text (record { text = t; rest = next_of [] c.left c.end; done = true }) =
         g.whole
         ∙ ap (and_then g.text) (
@@ -131,7 +130,7 @@ module _ (k : Coming) (out₀ out : List ℕ) (p : Planner) (at : ℕ) (g : Goin
         (and_then g.text (record { text = t; rest = next_of [] c.left c.end; done = true }))
         whole
         out'
-        (record { planner = s.planner; count = at'; done = true })
+        (record { planner = s.planner; count = at'; end = Some x.end })
         (omega (arith, q.next, g.place, length-append g.text t))
         refl
         (after t out' at' q)

@@ -1,6 +1,7 @@
 -- The text of a plan in pieces: what one call writes into the bytes that it is lent, and what it leaves to come.
 -- Assumes nothing.
 use Rattle.std.specs.Prelude.{◌≡◌, Bool, true, false, cond, List, [], ◌∷◌, ◌++◌, ℕ, ◌-◌, ltb, length, drop}
+use Rattle.std.specs.Option.{is_some}
 use Rattle.plan.specs.declared.types.Entry.{Entry}
 use Rattle.plan.specs.declared.types.End.{End}
 use Rattle.plan.specs.Steps.{Coming, next_of}
@@ -33,6 +34,6 @@ chunk room k = chunk_of room k.entries k.left k.end
 -- what one call promises of a planner with k to come: its text, with all bytes beyond it as they were, and the planner with the rest to come
 pub record ChunkIs (k : Coming) (out out' : List ℕ) (r : code.Chunk) : Type 0 where
   pub count : r.count ≡ length (chunk (length out) k).text
-  pub done : r.done ≡ (chunk (length out) k).done
+  pub done : is_some r.end ≡ (chunk (length out) k).done
   pub bytes : out' ≡ (chunk (length out) k).text ++ drop (length (chunk (length out) k).text) out
   pub rest : coming r.planner ≡ (chunk (length out) k).rest

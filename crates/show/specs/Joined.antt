@@ -2,6 +2,7 @@
 -- Assumes nothing.
 use Rattle.std.specs.Prelude.{◌≡◌, refl, Bool, true, false, cond, List, [], ◌∷◌, ◌++◌, ℕ, suc, ◌-◌, ◌≤◌, ◌<◌, ltb, length, take, drop}
 use Rattle.std.proofs.Common.{sym, ap, ◌∙◌, append_assoc, append-nil, arith, length-append, length-drop, take_at, le-ltb}
+use Rattle.std.specs.Option.{is_some}
 use Rattle.object.specs.declared.types.Scissor.{Scissor}
 use Rattle.plan.specs.declared.types.Entry.{Entry}
 use Rattle.plan.specs.declared.types.End.{End}
@@ -18,8 +19,8 @@ use Rattle.show.specs.Case.{case_plan, CaseIs}
 -- calls one after another, each on the planner last handed back, into bytes of any number; the bytes that they write, joined, and whether the last is done
 pub data Calls : Planner → List ℕ → Bool → Planner → Type 0 where
   none : {p : Planner} → Calls p [] false p
-  last : {p : Planner} (out out' : List ℕ) (r : code.Chunk) → ChunkIs (coming p) out out' r → r.done ≡ true → Calls p (take r.count out') true r.planner
-  more : {p : Planner} {text : List ℕ} {done : Bool} {p' : Planner} (out out' : List ℕ) (r : code.Chunk) → ChunkIs (coming p) out out' r → r.done ≡ false → Calls r.planner text done p'
+  last : {p : Planner} (out out' : List ℕ) (r : code.Chunk) → ChunkIs (coming p) out out' r → is_some r.end ≡ true → Calls p (take r.count out') true r.planner
+  more : {p : Planner} {text : List ℕ} {done : Bool} {p' : Planner} (out out' : List ℕ) (r : code.Chunk) → ChunkIs (coming p) out out' r → is_some r.end ≡ false → Calls r.planner text done p'
       → Calls p (take r.count out' ++ text) done p'
 
 -- the text of what is to come, and of what is left of it
@@ -69,7 +70,7 @@ module _ (k : Coming) (out out' : List ℕ) (r : code.Chunk) (i : ChunkIs k out 
   call_text : take r.count out' ≡ (chunk (length out) k).text
   call_text = (λ j. take (i.count j) (i.bytes j)) ∙ take_at (chunk (length out) k).text (drop (length (chunk (length out) k).text) out) (length (chunk (length out) k).text) refl
 
-  pub call_left : coming_text k ≡ take r.count out' ++ left_text r.done (coming r.planner)
+  pub call_left : coming_text k ≡ take r.count out' ++ left_text (is_some r.end) (coming r.planner)
   call_left = chunk_text (length out) k.entries k.left k.end ∙ sym (λ j. call_text j ++ left_text (i.done j) (i.rest j))
 
   -- what is written lies in the bytes lent
@@ -79,7 +80,7 @@ module _ (k : Coming) (out out' : List ℕ) (r : code.Chunk) (i : ChunkIs k out 
       omega (arith, i.count, ap length i.bytes, length-append t (drop (length t) out), length-drop (length t) out)
 
   -- 128 bytes are enough to go on
-  pub call_fewer : 128 ≤ length out → r.done ≡ false → length (coming r.planner).entries < length k.entries
+  pub call_fewer : 128 ≤ length out → is_some r.end ≡ false → length (coming r.planner).entries < length k.entries
   call_fewer h d =
       let f = chunk_fewer (length out) k.entries k.left k.end h (sym i.done ∙ d) in
       omega (arith, ap (λ (c : Coming). length c.entries) i.rest)

@@ -6,6 +6,7 @@ use planner::Planner;
 use request::{Request, from_bytes};
 use starts::fresh;
 
+// An opcode that `checks` passes, so that the length is what it refuses.
 const COPY: u8 = 10;
 
 // Any bytes. A case that is too short has just an end to come, which is that of an object without bytes.

@@ -3,18 +3,18 @@ ghost use Rattle.planner.specs.Coming.{coming};
 ghost use Rattle.show.specs.Chunk.{ChunkIs};
 
 use lines::{end_line, entry_line};
-use planner::{Given, Planner};
+use plan::End;
+use planner::Planner;
 
 // The most bytes that a line has.
 const LINE: usize = 128;
 
-// What one call leaves: the planner with the rest to come, how many bytes are written, and whether the end's line is among them.
-// The planner stands after the end too, with the same end to come, so the flag is no Option's.
+// What one call leaves: the planner with the rest to come, which after the end is the same end again, how many bytes are written, and the end once its line is among them.
 #[derive(Clone, Copy)]
 pub struct Chunk {
     pub planner: Planner,
     pub count: usize,
-    pub done: bool,
+    pub end: Option<End>,
 }
 
 // The lines of the next answers, as long as there is room for any line; with 128 bytes or more there is at least one.
@@ -23,29 +23,25 @@ pub fn next_text(start: Planner, out: &mut [u8]) -> Chunk
 {
     let mut planner = start;
     let mut count: usize = 0;
-    loop {
-        if out.len() - count < LINE {
-            return Chunk {
-                planner,
-                count,
-                done: false,
-            };
-        }
+    while out.len() - count >= LINE {
         let s = planner.step();
         planner = s.planner;
-        let given = s.given;
-        match given {
-            Given::Entry(e) => {
-                count = entry_line(&mut *out, count, e);
+        match s.given {
+            Ok(entry) => {
+                count = entry_line(&mut *out, count, entry);
             }
-            Given::Refused(_, e) | Given::End(e) => {
-                count = end_line(&mut *out, count, e);
+            Err(stop) => {
                 return Chunk {
                     planner,
-                    count,
-                    done: true,
+                    count: end_line(&mut *out, count, stop.end),
+                    end: Some(stop.end),
                 };
             }
         }
+    }
+    Chunk {
+        planner,
+        count,
+        end: None,
     }
 }

@@ -65,12 +65,6 @@ pub fn signed16(x: i64) -> i16
     low16(x).cast_signed()
 }
 
-pub fn wide(x: i16) -> i64
-    ensures { result ≡ x }
-{
-    x as i64
-}
-
 pub fn word_of(x: i64) -> u64
     ensures { result ≡ word x }
 {

@@ -1,6 +1,6 @@
 -- Where a plan starts: each refusal, an empty frame, and the first place of each mode. D is docs/SPECIFICATION.md, section 4.
 -- Assumes nothing.
-use Rattle.std.specs.Prelude.{◌≡◌, refl, Ok, Err, true, false, List, [], ℕ}
+use Rattle.std.specs.Prelude.{◌≡◌, refl, Result, Ok, Err, true, false, List, [], ℕ}
 use Rattle.std.proofs.Math.Path.{sym, ap}
 use Rattle.std.proofs.Common.{◌∙◌}
 use native.Mathlib.Omega.{arith}
@@ -10,14 +10,13 @@ use Rattle.object.specs.declared.types.Verdict.{Verdict}
 use Rattle.object.specs.declared.types.Verdict.TheVariants as verdict
 use Rattle.object.specs.declared.types.Background.TheVariants as background
 use Rattle.checks.specs.Check.{checked_of}
-use Rattle.plan.specs.declared.types.Scaled.{Scaled}
 use Rattle.plan.specs.declared.types.End.{End}
 use Rattle.plan.specs.Request.{Request}
-use Rattle.plan.specs.Out.{Plan, yield, refuse, plan_out}
+use Rattle.plan.specs.Out.{Plan, yield, plan_out}
 use Rattle.plan.specs.Next.{ended}
 use Rattle.plan.specs.Copy.{copy_of, copy_empty, copy_plan}
-use Rattle.plan.specs.Scaled.{clip_of, scaled_empty, start_of, scaled_of, slices_bad, first_of, scaled_plan}
-use Rattle.plan.specs.Whole.{copy_out, scaled_out, checked_out, plan_with, plan_of}
+use Rattle.plan.specs.Scaled.{scaled_plan}
+use Rattle.plan.specs.Whole.{copy_out, checked_out, plan_with, plan_of}
 use Rattle.plan.specs.Sound.{SoundCopy}
 use Rattle.plan.specs.Run.{end_of}
 use Rattle.plan.specs.Steps.{Coming}
@@ -33,13 +32,18 @@ use Rattle.loads.specs.Sound.{Reaches}
 use Rattle.words.specs.declared.count.Counts.{Counts}
 use Rattle.words.specs.Counts.{zero_counts, counted_all, end_with}
 use Rattle.words.proofs.CountsLaws.{zero_countable, end_of_lem}
+use Rattle.setup.specs.declared.parts.SetUp.{SetUp}
+use Rattle.setup.specs.Parts.{set_up_of}
+use Rattle.setup.proofs.Laws.{plan_by, scaled_by}
 use Rattle.planner.specs.declared.types.Course.{Course}
 use Rattle.planner.specs.declared.types.Course.TheVariants as course
 use Rattle.planner.specs.Planner.{Planner}
 use Rattle.planner.specs.Coming.{coming_course, coming_from, coming, Starts, StartsCopy, StartsScaled, Fresh, course_of, request_of}
-use Rattle.plan.specs.declared.types.Start.{Start}
-use Rattle.scaled.specs.Range.{StartIn}
-use Rattle.first.specs.Near.{Near}
+
+-- where a plan starts, or that it ends at a verdict before any entry
+abbrev pub course_or : Result Course Verdict → Course
+course_or (Ok c) = c
+course_or (Err v) = course.Over v
 
 over_starts : (plan : Plan) (v : Verdict) → ended [] v ≡ plan → Starts plan (course.Over v)
 over_starts plan v e = record { is = e; first = tt; sound = tt; left = omega arith }
@@ -52,22 +56,6 @@ out_none bg q t = rw (t, copy_out)
 out_copy : (bg : ObjBg) (q : Request) → copy_empty (copy_of bg q.scissor q.address) ≡ false → copy_out bg q ≡ copy_plan (copy_of bg q.scissor q.address)
 unfolding copy_out
 out_copy bg q t = rw (t, copy_out)
-
-abbrev strips_of : ObjBg → Scissor → (mode address : ℕ) → Scaled
-strips_of bg s mode address = scaled_of bg mode address (clip_of bg s) (start_of bg (clip_of bg s))
-
-out_empty : (bg : ObjBg) (q : Request) → scaled_empty (clip_of bg q.scissor) ≡ true → scaled_out bg q ≡ yield tt
-unfolding scaled_out
-out_empty bg q t = rw (t, scaled_out)
-
-out_bad : (bg : ObjBg) (q : Request) → scaled_empty (clip_of bg q.scissor) ≡ false → slices_bad (strips_of bg q.scissor q.mode q.address) ≡ true → scaled_out bg q ≡ refuse verdict.Slices
-unfolding scaled_out
-out_bad bg q t u = rw (t, u, scaled_out)
-
-out_scaled : (bg : ObjBg) (q : Request) → scaled_empty (clip_of bg q.scissor) ≡ false → slices_bad (strips_of bg q.scissor q.mode q.address) ≡ false
-    → scaled_out bg q ≡ scaled_plan (strips_of bg q.scissor q.mode q.address) (clip_of bg q.scissor) (first_of (strips_of bg q.scissor q.mode q.address) (start_of bg (clip_of bg q.scissor)))
-unfolding scaled_out
-out_scaled bg q t u = rw (t, u, scaled_out)
 
 module _ (bg : ObjBg) (s : Scissor) (address : ℕ) where
   pub copy_none : copy_empty (copy_of bg s address) ≡ true → StartsCopy bg s address (course.Over verdict.Finished)
@@ -84,25 +72,21 @@ module _ (bg : ObjBg) (s : Scissor) (address : ℕ) where
       }
 
 module _ (bg : ObjBg) (s : Scissor) (mode address : ℕ) where
-  pub scaled_none : scaled_empty (clip_of bg s) ≡ true → StartsScaled bg s mode address (course.Over verdict.Finished)
-  scaled_none t = λ bytes opcode. over_starts _ verdict.Finished (sym (ap plan_out (out_empty bg (request_of bytes opcode s mode address) t)))
+  pub scaled_over : (v : Verdict) → Err v ≡ set_up_of bg s mode address → StartsScaled bg s mode address (course.Over v)
+  scaled_over v e = λ bytes opcode. over_starts _ v (ap plan_by e ∙ sym (scaled_by bg (request_of bytes opcode s mode address)))
 
-  pub scaled_bad : scaled_empty (clip_of bg s) ≡ false → slices_bad (strips_of bg s mode address) ≡ true → StartsScaled bg s mode address (course.Over verdict.Slices)
-  scaled_bad t u = λ bytes opcode. over_starts _ verdict.Slices (sym (ap plan_out (out_bad bg (request_of bytes opcode s mode address) t u)))
-
-  pub scaled_begins : scaled_empty (clip_of bg s) ≡ false → slices_bad (strips_of bg s mode address) ≡ false → (r : Reached)
-      → Reaches (plan_out (scaled_plan (strips_of bg s mode address) (clip_of bg s) (first_of (strips_of bg s mode address) (start_of bg (clip_of bg s))))) 16384 r → StartsScaled bg s mode address (course_of r)
-  scaled_begins t u (Ok q) g =
+  pub scaled_begins : (p : SetUp) → Ok p ≡ set_up_of bg s mode address → (r : Reached) → Reaches (plan_out (scaled_plan p.scaled p.clip p.first)) 16384 r → StartsScaled bg s mode address (course_of r)
+  scaled_begins p e (Ok q) g =
       let l = g.left in
-      λ bytes opcode. record { is = g.is ∙ sym (ap plan_out (out_scaled bg (request_of bytes opcode s mode address) t u)); first = tt; sound = g.sound; left = omega arith }
-  scaled_begins t u (Err v) g = λ bytes opcode. over_starts _ v (g.is ∙ sym (ap plan_out (out_scaled bg (request_of bytes opcode s mode address) t u)))
+      λ bytes opcode. record { is = g.is ∙ ap plan_by e ∙ sym (scaled_by bg (request_of bytes opcode s mode address)); first = tt; sound = g.sound; left = omega arith }
+  scaled_begins p e (Err v) g = λ bytes opcode. over_starts _ v (g.is ∙ ap plan_by e ∙ sym (scaled_by bg (request_of bytes opcode s mode address)))
 
 -- a fresh planner, by what the checks say
 module _ (bytes : List ℕ) (opcode : ℕ) (s : Scissor) (mode address : ℕ) where
   abbrev asked : Request
   asked = request_of bytes opcode s mode address
 
-  fresh_from : (r : Course) → Starts (plan_of asked) r → Fresh bytes opcode s mode address (record { course = r; counts = zero_counts })
+  pub fresh_from : (r : Course) → Starts (plan_of asked) r → Fresh bytes opcode s mode address (record { course = r; counts = zero_counts })
   unfolding coming
   fresh_from r g =
       let l = g.left in
@@ -113,17 +97,17 @@ module _ (bytes : List ℕ) (opcode : ℕ) (s : Scissor) (mode address : ℕ) wh
         sound = record { course = g.sound; counts = zero_countable; few = omega arith };
       }
 
-  pub fresh_refused : (v : Verdict) → checked_of 4 bytes opcode s ≡ Err v → Fresh bytes opcode s mode address (record { course = course.Over v; counts = zero_counts })
+  pub starts_refused : (v : Verdict) → checked_of 4 bytes opcode s ≡ Err v → Starts (plan_of asked) (course.Over v)
   unfolding plan_of plan_with checked_out
-  fresh_refused v e = fresh_from (course.Over v) (over_starts _ v (rw e))
+  starts_refused v e = over_starts _ v (rw e)
 
-  pub fresh_copy : (bg : ObjBg) (r : Course) → checked_of 4 bytes opcode s ≡ Ok (background.Copy bg) → StartsCopy bg s address r → Fresh bytes opcode s mode address (record { course = r; counts = zero_counts })
+  pub starts_copy : (bg : ObjBg) (r : Course) → checked_of 4 bytes opcode s ≡ Ok (background.Copy bg) → StartsCopy bg s address r → Starts (plan_of asked) r
   unfolding plan_of plan_with checked_out
-  fresh_copy bg r e g = fresh_from r (rw e (g bytes opcode mode))
+  starts_copy bg r e g = rw e (g bytes opcode mode)
 
-  pub fresh_scaled : (bg : ObjBg) (r : Course) → checked_of 4 bytes opcode s ≡ Ok (background.Scaled bg) → StartsScaled bg s mode address r → Fresh bytes opcode s mode address (record { course = r; counts = zero_counts })
+  pub starts_scaled : (bg : ObjBg) (r : Course) → checked_of 4 bytes opcode s ≡ Ok (background.Scaled bg) → StartsScaled bg s mode address r → Starts (plan_of asked) r
   unfolding plan_of plan_with checked_out
-  fresh_scaled bg r e g = fresh_from r (rw e (g bytes opcode))
+  starts_scaled bg r e g = rw e (g bytes opcode)
 
   -- of a copy plan, all of it is to come from its frame
   module _ (p : Planner) (st : Stage) (place : Place) (e : p.course ≡ course.Copy st place) (f : Fresh bytes opcode s mode address p) where
@@ -145,7 +129,3 @@ module _ (bytes : List ℕ) (opcode : ℕ) (s : Scissor) (mode address : ℕ) wh
         ∙ sym (end_of_lem (coming_course p.course))
         ∙ ap (λ (n : Counts). end_with (counted_all n (coming_course p.course).entries) (coming_course p.course).verdict) (sym f.counts)
         ∙ ap (λ (c : Coming). c.end) f.coming
-
--- a start in an image is near enough for the first strip
-pub near : {bg : ObjBg} {i : Start} → StartIn bg i → Near i
-near s = record { image_y = s.image_y; low = s.low; high = s.high }

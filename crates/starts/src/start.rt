@@ -3,7 +3,9 @@ ghost use Rattle.checks.specs.Known.{PassedCopy, PassedScaled};
 ghost use Rattle.std.specs.Prelude.{◌≡◌, ◌≤◌};
 ghost use Rattle.words.specs.Counts.{zero_counts};
 ghost use Rattle.planner.specs.Planner.{planner_at, SoundCourse, left_course};
-ghost use Rattle.planner.specs.Coming.{Fresh, StartsCopy, StartsScaled};
+ghost use Rattle.plan.specs.Whole.{plan_of};
+ghost use Rattle.planner.specs.Coming.{Fresh, Starts, StartsCopy, StartsScaled, request_of};
+ghost use Rattle.starts.specs.Start.{course_or};
 
 use copy::{Due, Stage};
 use object::{Background, ObjBg, Verdict};
@@ -11,37 +13,37 @@ use planner::{Course, Planner};
 use request::Request;
 use words::Counts;
 
-fn copy_course(bg: ObjBg, q: Request) -> Course
+fn copy_course(bg: ObjBg, q: Request) -> Result<Course, Verdict>
     requires { PassedCopy bg q.scissor }
-    ensures { StartsCopy bg q.scissor q.address result }
+    ensures { StartsCopy bg q.scissor q.address (course_or result) }
 {
     let c = strips::copy_of(bg, q.scissor, q.address);
     if strips::copy_empty(c) {
-        return Course::Over(Verdict::Finished);
+        return Err(Verdict::Finished);
     }
-    Course::Copy(Stage::Strip(Due::Image), copy::copy_start(c))
+    Ok(Course::Copy(Stage::Strip(Due::Image), copy::copy_start(c)))
 }
 
-fn scaled_course(bg: ObjBg, q: Request) -> Course
+fn scaled_course(bg: ObjBg, q: Request) -> Result<Course, Verdict>
     requires { PassedScaled bg q.scissor }
-    ensures { StartsScaled bg q.scissor q.mode q.address result }
+    ensures { StartsScaled bg q.scissor q.mode q.address (course_or result) }
 {
-    let c = scaled::clip_of(bg, q.scissor);
-    if scaled::clip_empty(c) {
-        return Course::Over(Verdict::Finished);
-    }
-    let i = scaled::start_of(bg, c);
-    let z = scaled::scaled_of(bg, q.mode, q.address, c, i);
-    if scaled::slices_bad(z) {
-        return Course::Over(Verdict::Slices);
-    }
-    match passes::scaled_start(z, c, first::first_of(z, i)) {
-        Ok((stage, place)) => Course::Scaled(stage, place),
-        Err(v) => Course::Over(v),
+    let parts = setup::set_up(bg, q)?;
+    let (stage, place) = passes::scaled_start(parts.scaled, parts.clip, parts.first)?;
+    Ok(Course::Scaled(stage, place))
+}
+
+// Where the plan of a request starts, or the verdict that it ends at before any entry.
+fn first_course(object: &[u8], q: Request) -> Result<Course, Verdict>
+    ensures { Starts (plan_of (request_of object.now q.opcode q.scissor q.mode q.address)) (course_or result) }
+{
+    match checks::checked(object, q.opcode, q.scissor)? {
+        Background::Copy(bg) => copy_course(bg, q),
+        Background::Scaled(bg) => scaled_course(bg, q),
     }
 }
 
-// A planner at the start of a course: nothing is given yet.
+// A planner at the start of a course: nothing is given yet. Written out in full, as are the starts of both walks: a default would name the same numbers in another place.
 fn started(course: Course) -> Planner
     requires { (SoundCourse course) × (left_course course ≤ 6000000) }
     ensures { result ≡ planner_at course zero_counts }
@@ -59,9 +61,5 @@ fn started(course: Course) -> Planner
 pub fn fresh(object: &[u8], q: Request) -> Planner
     ensures { Fresh object.now q.opcode q.scissor q.mode q.address result }
 {
-    match checks::checked(object, q.opcode, q.scissor) {
-        Ok(Background::Copy(bg)) => started(copy_course(bg, q)),
-        Ok(Background::Scaled(bg)) => started(scaled_course(bg, q)),
-        Err(v) => started(Course::Over(v)),
-    }
+    started(first_course(object, q).unwrap_or_else(Course::Over))
 }

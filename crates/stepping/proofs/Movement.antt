@@ -3,28 +3,24 @@
 use mathlib.Core.Path.{◌≡◌, ap, ◌∙◌}
 use mathlib.Core.List.{List, [], ◌∷◌}
 use Prim.Native.Nat.{ℕ}
-use native.Mathlib.Omega.{arith}
+use Rattle.std.specs.Prelude.{Ok, Err}
 use Rattle.plan.specs.declared.types.Entry.{Entry}
 use Rattle.plan.specs.declared.types.End.{End}
 use Rattle.plan.specs.Steps.{answer_of}
 use Rattle.giving.specs.Host.{words_after}
 use Rattle.planner.specs.Planner.{Planner}
-use Rattle.planner.specs.declared.types.Given.{Given}
-use Rattle.planner.specs.declared.types.Given.TheVariants as given
 use Rattle.planner.specs.declared.types.Step.{Step}
-use Rattle.planner.specs.Coming.{coming, answer_in, left_in, left_next, counts_next, StepGives}
+use Rattle.planner.specs.Coming.{coming, Given, answer_in, left_in, left_next, counts_next, StepGives}
 use Rattle.planner.specs.Planner.{planner_at}
 use Rattle.stored.specs.Stored.{stored_of, StoredIs}
 use Rattle.stepping.specs.Host.{answer_words, sets_in, sets_next, Moved}
 
 -- what sets the bank, in terms of what was to come
 sets_next_lem : (es left : List Entry) (x : End) (g : Given) → answer_in g ≡ answer_of es x → left_in g ≡ left_next es left → sets_in g ≡ sets_next es left
-sets_next_lem [] left x (given.Entry e) a l = let z : ◌≡◌ {A = ℕ} 0 1 = cc in absurd (omega arith)
-sets_next_lem [] left x (given.Refused s y) a l = l
-sets_next_lem [] left x (given.End y) a l = l
-sets_next_lem (e ∷ es) left x (given.Entry f) a l = let k : f ≡ e = cc in ap (λ (d : Entry). d ∷ []) k
-sets_next_lem (e ∷ es) left x (given.Refused s y) a l = let z : ◌≡◌ {A = ℕ} 0 1 = cc in absurd (omega arith)
-sets_next_lem (e ∷ es) left x (given.End y) a l = let z : ◌≡◌ {A = ℕ} 0 1 = cc in absurd (omega arith)
+sets_next_lem [] left x (Ok e) a l = cc
+sets_next_lem [] left x (Err s) a l = l
+sets_next_lem (e ∷ es) left x (Ok f) a l = let k : f ≡ e = cc in ap (λ (d : Entry). d ∷ []) k
+sets_next_lem (e ∷ es) left x (Err s) a l = cc
 
 pub moved_is : (p : Planner) (s : Step) → StepGives p s → (bank ws' bank' out' : List ℕ) → StoredIs s.planner ws' → bank' ≡ words_after bank (sets_in s.given) → out' ≡ answer_words (answer_in s.given) → Moved p bank ws' bank' out'
 moved_is p s g bank ws' bank' out' k b o =

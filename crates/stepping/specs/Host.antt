@@ -10,9 +10,7 @@ use Rattle.giving.specs.Host.{words_after}
 use Rattle.request.specs.Host.{host_request}
 use Rattle.planner.specs.declared.types.Course.TheVariants as course
 use Rattle.planner.specs.Planner.{Planner}
-use Rattle.planner.specs.declared.types.Given.{Given}
-use Rattle.planner.specs.declared.types.Given.TheVariants as given
-use Rattle.planner.specs.Coming.{coming}
+use Rattle.planner.specs.Coming.{coming, Given, left_in}
 use Rattle.planner.specs.Planner.{planner_at}
 use Rattle.stored.specs.Stored.{stored_of, WordsOf, LoadedIs}
 
@@ -23,9 +21,8 @@ answer_words (Err x) = end_words x
 
 -- what sets the bank at a step: the entry, or the size that a refused load has set
 abbrev pub sets_in : Given → List Entry
-sets_in (given.Entry e) = e ∷ []
-sets_in (given.Refused s x) = s ∷ []
-sets_in (given.End x) = []
+sets_in (Ok e) = e ∷ []
+sets_in (Err s) = left_in (Err s)
 
 abbrev pub sets_next : List Entry → List Entry → List Entry
 sets_next [] left = left

@@ -1,4 +1,4 @@
-// The boundary to C for hosts that step: between two calls a planner stands in words that the host keeps. These functions are an object of their own in the library, so that the run keeps its planner to itself.
+// The boundary to C for hosts that step: between two calls a planner stands in words that the host keeps. These functions are an object of their own in the library: compiled together with the run they would share its functions, and the run would then call what is now part of its loop.
 //
 // request  7 words: as for `visor_run`
 // state   39 words: a planner, made by `visor_start`; a host copies them, and changes none
@@ -15,8 +15,7 @@ ghost use Rattle.stored.specs.Stored.{StoredIs};
 ghost use Rattle.stepping.specs.Host.{answer_words, sets_in, Moved, StepIs, StartIs};
 
 use planner::{Given, Planner};
-
-const REQUEST: usize = 7;
+use request::Request;
 
 const STATE: usize = 39;
 
@@ -28,9 +27,8 @@ fn out_words(given: Given) -> [u64; 11]
     ensures { result ≡ answer_words (answer_in given) }
 {
     match given {
-        Given::Entry(entry) => words::entry_words(entry),
-        Given::Refused(_, end) => words::end_words(end),
-        Given::End(end) => words::end_words(end),
+        Ok(entry) => words::entry_words(entry),
+        Err(stop) => words::end_words(stop.end),
     }
 }
 
@@ -41,9 +39,12 @@ fn set_bank(bank: &mut [u64], given: Given)
     ensures { bank.new ≡ words_after bank.old (sets_in given) }
 {
     match given {
-        Given::Entry(entry) => settling::set_words(&mut *bank, entry),
-        Given::Refused(size, _) => settling::set_words(&mut *bank, size),
-        Given::End(_) => {}
+        Ok(entry) => settling::set_words(&mut *bank, entry),
+        Err(stop) => {
+            if let Some(size) = stop.size {
+                settling::set_words(&mut *bank, size);
+            }
+        }
     }
 }
 
@@ -52,10 +53,9 @@ fn moved(p: Planner, state: &mut [u64], bank: &mut [u64], out: &mut [u64])
     ensures { Moved p bank.old state.new bank.new out.new }
 {
     let s = p.step();
-    let given = s.given;
     state.copy_from_slice(&stored::stored(s.planner));
-    set_bank(&mut *bank, given);
-    out.copy_from_slice(&out_words(given));
+    set_bank(&mut *bank, s.given);
+    out.copy_from_slice(&out_words(s.given));
 }
 
 // One step: the answer goes to `out`, `bank` has what it sets, and `state` has the rest to come. After the end the same end, and nothing else changes.
@@ -84,13 +84,12 @@ pub fn visor_step(state: &mut [u64], bank: &mut [u64], out: &mut [u64]) -> u64
 pub fn visor_start(object: &[u8], request: &[u64], state: &mut [u64]) -> u64
     ensures { StartIs object.now request.now state.old result state.new }
 {
-    let Ok(request) = <&[u64; REQUEST]>::try_from(request) else {
+    let Ok(q) = Request::try_from(request) else {
         return 1;
     };
     if state.len() != STATE {
         return 1;
     }
-    let q = request::from_words(request);
     let p = starts::fresh(object, q);
     state.copy_from_slice(&stored::stored(p));
     0

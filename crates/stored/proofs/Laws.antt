@@ -6,6 +6,7 @@ use mathlib.Core.List.{List}
 use Prim.Native.Nat.{ℕ, ◌+◌, ◌≤◌, ◌^◌}
 use lib.ListN.{length, get_or}
 use lib.Dec.{ltb, eqb}
+use Rattle.std.proofs.lemmas.Bool.{and_parts}
 use Rattle.object.specs.declared.types.Verdict.{Verdict}
 use Rattle.object.specs.declared.types.Verdict.TheVariants as verdict
 use Rattle.checks.specs.Check.{verdict_number}
@@ -27,7 +28,7 @@ use Rattle.planner.specs.declared.types.Course.TheVariants as course
 use Rattle.planner.specs.Planner.{Planner}
 use Rattle.planner.specs.Planner.{Sound}
 use Rattle.planner.specs.Planner.{planner_at}
-use Rattle.stored_fields.proofs.Laws.{both, each, counts_yes, counts_no}
+use Rattle.stored_fields.proofs.Laws.{each, counts_yes, counts_no}
 use Rattle.stored_fields.specs.Test.{counts_test}
 use Rattle.stored_copy.specs.Course.{copy_words, copy_from, copy_test, place_test}
 use Rattle.stored_copy.proofs.Laws.{copy_yes, copy_no, copy_back, place_yes, place_no, place_back}
@@ -44,7 +45,7 @@ over_made v n u = let c = counts_yes n 0 u in record { course = tt; counts = c.c
 
 start_made : (ws : List ℕ) (n : Counts) → (copy_test ws && counts_test n 5242881) ≡ true → Sound (planner_at (course.Copy (stage.Strip due.Image) (start_at (copy_from ws))) n)
 start_made ws n t =
-    let e = both _ _ t in
+    let e = and_parts _ _ t in
     let c = counts_yes n 5242881 e.1 in
     record { course = record { copy = copy_yes ws e.0; is = refl }; counts = c.counts; few = c.few }
 
@@ -62,13 +63,13 @@ sound_place k q h = by (eqb k 2) (eqb k 3) (eqb k 4) (eqb k 5) (eqb k 6)
 
 place_made : (k : ℕ) (ws : List ℕ) (n : Counts) → (place_test ws && counts_test n (left_copy (copied.stage_from k) (copied.place_from ws))) ≡ true → Sound (planner_at (course.Copy (copied.stage_from k) (copied.place_from ws)) n)
 place_made k ws n t =
-    let e = both _ _ t in
+    let e = and_parts _ _ t in
     let c = counts_yes n _ e.1 in
     record { course = sound_place k (copied.place_from ws) (place_yes ws e.0); counts = c.counts; few = c.few }
 
 scaled_made : (s : pass_stage.Stage) (ws : List ℕ) (n : Counts) → (stage_test s ws && counts_test n (left_at s (passed.place_from ws))) ≡ true → Sound (planner_at (course.Scaled s (passed.place_from ws)) n)
 scaled_made s ws n t =
-    let e = both _ _ t in
+    let e = and_parts _ _ t in
     let c = counts_yes n _ e.1 in
     record { course = stage_yes s ws e.0; counts = c.counts; few = c.few }
 

@@ -1,19 +1,20 @@
 // A planner in 39 words and out of them.
 ghost use Rattle.std.specs.Prelude.{◌≡◌, true};
+ghost use Rattle.planner.specs.Planner.{planner_at};
 ghost use Rattle.stored.specs.Stored.{over_words, StoredIs, LoadedIs, verdict_from, counts_from, course_from, planner_from, sound_test};
 
 use checks::number;
 use copy::Due;
 use object::Verdict;
 use planner::{Course, Planner};
-use stored_fields::counts_sound;
+use stored_fields::{State, counts_sound};
 use words::Counts;
 
 #[tactic(auto, unfolding(crate::specs::Stored::over_words))]
-fn over_words(v: Verdict, n: Counts) -> [u64; 39]
+fn over_words(v: Verdict, n: Counts) -> State
     ensures { result ≡ over_words v n }
 {
-    let mut words = [0u64; 39];
+    let mut words: State = [0; 39];
     words[1] = n.entries;
     words[2] = n.rectangles;
     words[3] = n.words;
@@ -22,19 +23,25 @@ fn over_words(v: Verdict, n: Counts) -> [u64; 39]
     words
 }
 
-// A planner's words.
-pub fn stored(p: Planner) -> [u64; 39]
-    ensures { StoredIs p result }
+// The words of a course and its counts, whether or not they make a sound planner.
+pub fn words_of(course: Course, counts: Counts) -> State
+    ensures { StoredIs (planner_at course counts) result }
 {
-    let course = p.course;
     match course {
-        Course::Copy(stage, place) => stored_copy::copy_words(stage, place, p.counts),
-        Course::Scaled(stage, place) => stored_scaled::scaled_words(stage, place, p.counts),
-        Course::Over(v) => over_words(v, p.counts),
+        Course::Copy(stage, place) => stored_copy::copy_words(stage, place, counts),
+        Course::Scaled(stage, place) => stored_scaled::scaled_words(stage, place, counts),
+        Course::Over(v) => over_words(v, counts),
     }
 }
 
-// Total, as the words are tested before and again after: the error of a TryFrom would be one that no caller can meet.
+// A planner's words.
+pub fn stored(p: Planner) -> State
+    ensures { StoredIs p result }
+{
+    words_of(p.course, p.counts)
+}
+
+// Total: a number above 10 reads as the last, and the comparison in `load` refuses it. The error of a TryFrom would refuse the same words a second time.
 fn verdict_from(k: u64) -> Verdict
     ensures { result ≡ verdict_from k }
 {
@@ -53,7 +60,7 @@ fn verdict_from(k: u64) -> Verdict
     }
 }
 
-fn counts_from(words: &[u64; 39]) -> Counts
+fn counts_from(words: &State) -> Counts
     ensures { result ≡ counts_from words.now }
 {
     Counts {
@@ -66,7 +73,7 @@ fn counts_from(words: &[u64; 39]) -> Counts
 
 // The course of any words; which of them are a planner's is tested apart.
 #[tactic(auto, unfolding(crate::specs::Stored::course_from))]
-fn course_from(words: &[u64; 39]) -> Course
+fn course_from(words: &State) -> Course
     ensures { result ≡ course_from words.now }
 {
     let k = words[0];
@@ -87,7 +94,7 @@ fn course_from(words: &[u64; 39]) -> Course
 }
 
 // The planner of words that were tested.
-fn planner_from(words: &[u64; 39]) -> Planner
+fn planner_from(words: &State) -> Planner
     requires { sound_test words.now ≡ true }
     ensures { result ≡ planner_from words.now }
 {
@@ -100,7 +107,7 @@ fn planner_from(words: &[u64; 39]) -> Planner
 const ALL: u64 = 5242881;
 
 // Whether the planner of the words is sound, tested before it is made: what a step asks of its numbers, and few enough entries.
-fn sound(words: &[u64; 39]) -> bool
+fn sound(words: &State) -> bool
     ensures { result ≡ sound_test words.now }
 {
     let k = words[0];
@@ -127,8 +134,8 @@ fn sound(words: &[u64; 39]) -> bool
     counts_sound(n, stored_scaled::scaled_left(stage, words))
 }
 
-// The planner of any words; nothing where they are no sound planner's. A planner's words are its own: what the test leaves open, such as a word that the course does not use, must be as `stored` would have it.
-pub fn load(words: [u64; 39]) -> Option<Planner>
+// The planner of any words; nothing where they are no sound planner's. No other words are a planner's than those that `stored` gives: what the test leaves open, such as a word that the course does not use, must be as there.
+pub fn load(words: State) -> Option<Planner>
     ensures { LoadedIs words result }
 {
     if !sound(&words) {

@@ -2,12 +2,13 @@
 -- Assumes nothing.
 use Rattle.std.specs.Prelude.{◌≡◌, refl, Bool, true, false, List, ℕ, leb, ltb, eqb, get_or}
 use Rattle.std.proofs.Common.{arith, leb-true, le-leb, ltb-true, lt-ltb, eqb-true, eq-eqb}
+use Rattle.std.proofs.lemmas.Bool.{and_parts}
 use Rattle.words.specs.declared.count.Counts.{Counts}
 use Rattle.plan.specs.Sound.{SoundCopy}
 use Rattle.copy.specs.declared.types.Stage.{Stage}
 use Rattle.copy.specs.declared.types.Place.{Place}
 use Rattle.copy.specs.Walk.{SoundPlace}
-use Rattle.stored_fields.proofs.Laws.{all_yes, all_no, both, each, up_back, small_below, below_small}
+use Rattle.stored_fields.proofs.Laws.{all_yes, all_no, each, up_back, small_below, below_small}
 use Rattle.stored_fields.specs.Signed.{flag_word}
 use Rattle.stored_copy.specs.Course.{copy_words, copy_from, strip_from, place_from, copy_tests, copy_test, place_tests, place_test}
 
@@ -48,7 +49,7 @@ copy_no s p n h = all_no (leb p.copy.siz 3) (copy_tests (copy_words s p n)) (le-
 pub place_yes : (ws : List ℕ) → place_test ws ≡ true → SoundPlace (place_from ws)
 unfolding place_test place_from strip_from copy_from
 place_yes ws t =
-    let e = both (copy_test ws) _ t in
+    let e = and_parts (copy_test ws) _ t in
     let h = all_yes (ltb (get_or ws 23 0) (get_or ws 16 0)) (place_tests ws) e.1 in
     record {
       copy = copy_yes ws e.0;

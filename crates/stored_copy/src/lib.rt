@@ -1,4 +1,4 @@
-// A copy course in words and out of them, and the test of such words that is what a step asks of its place.
+// A copy course in words and out of them, and the test of such words that is what a step asks of its place. A word goes by its place in the list of `copy_words`, here as in the definitions: a test of the place's fields would stand beside a second list of them.
 #![tactic(auto)]
 
 ghost use Rattle.std.specs.Prelude.{◌≡◌};
@@ -9,18 +9,17 @@ ghost use Rattle.stored_copy.specs.Course.{stage_word, copy_words, stage_from, c
 use copy::{Due, Place, Stage};
 use measures::{Quarters, quarters};
 use plan::{Copy, Strip};
-use stored_fields::{room, signed_of};
+use stored_fields::{State, room, signed_of};
 use strips::texels_per_word;
 use words::Counts;
 
+// A match, as a stage that holds what is due has no number to cast.
 fn stage_word(s: Stage) -> u64
     ensures { result ≡ stage_word s }
 {
     match s {
-        Stage::Strip(due) => match due {
-            Due::Image => 1,
-            Due::Rect => 2,
-        },
+        Stage::Strip(Due::Image) => 1,
+        Stage::Strip(Due::Rect) => 2,
         Stage::Tile7 => 3,
         Stage::Tile0 => 4,
         Stage::Size => 5,
@@ -30,7 +29,7 @@ fn stage_word(s: Stage) -> u64
 }
 
 #[tactic(auto, unfolding(crate::specs::Course::copy_words))]
-pub fn copy_words(stage: Stage, p: Place, n: Counts) -> [u64; 39]
+pub fn copy_words(stage: Stage, p: Place, n: Counts) -> State
     ensures { result ≡ copy_words stage p n }
 {
     let c = p.copy;
@@ -82,7 +81,7 @@ pub fn copy_words(stage: Stage, p: Place, n: Counts) -> [u64; 39]
     ]
 }
 
-// Total, as `stored` says of verdicts.
+// Total: `stored::load` refuses a number that is no stage's, as its words are not those of the stage that it reads as.
 pub fn stage_from(k: u64) -> Stage
     ensures { result ≡ stage_from k }
 {
@@ -97,7 +96,7 @@ pub fn stage_from(k: u64) -> Stage
 }
 
 #[tactic(auto, unfolding(crate::specs::Course::copy_from))]
-pub fn copy_from(words: &[u64; 39]) -> Copy
+pub fn copy_from(words: &State) -> Copy
     ensures { result ≡ copy_from words.now }
 {
     let left = Quarters(signed_of(words[14]));
@@ -125,7 +124,7 @@ pub fn copy_from(words: &[u64; 39]) -> Copy
 }
 
 #[tactic(auto, unfolding(crate::specs::Course::strip_from))]
-fn strip_from(words: &[u64; 39]) -> Strip
+fn strip_from(words: &State) -> Strip
     ensures { result ≡ strip_from words.now }
 {
     Strip {
@@ -138,7 +137,7 @@ fn strip_from(words: &[u64; 39]) -> Strip
 }
 
 #[tactic(auto, unfolding(crate::specs::Course::place_from))]
-pub fn place_from(words: &[u64; 39]) -> Place
+pub fn place_from(words: &State) -> Place
     ensures { result ≡ place_from words.now }
 {
     let copy = copy_from(words);
@@ -154,7 +153,7 @@ pub fn place_from(words: &[u64; 39]) -> Place
 }
 
 #[tactic(auto, unfolding(crate::specs::Course::copy_test))]
-pub fn copy_sound(words: &[u64; 39]) -> bool
+pub fn copy_sound(words: &State) -> bool
     ensures { result ≡ copy_test words.now }
 {
     let siz = words[6];
@@ -185,7 +184,7 @@ pub fn copy_sound(words: &[u64; 39]) -> bool
 }
 
 #[tactic(auto, unfolding(crate::specs::Course::place_test))]
-pub fn place_sound(words: &[u64; 39]) -> bool
+pub fn place_sound(words: &State) -> bool
     ensures { result ≡ place_test words.now }
 {
     copy_sound(words)
@@ -211,10 +210,8 @@ pub fn copy_left(stage: Stage, p: Place) -> u64
     let rows = 1024 * (1024 - p.y);
     let cells = 5 * (rows - p.x);
     match stage {
-        Stage::Strip(due) => match due {
-            Due::Image => 5 * rows + 1,
-            Due::Rect => cells - 4,
-        },
+        Stage::Strip(Due::Image) => 5 * rows + 1,
+        Stage::Strip(Due::Rect) => cells - 4,
         Stage::Tile7 => cells,
         Stage::Tile0 => cells - 1,
         Stage::Size => cells - 2,

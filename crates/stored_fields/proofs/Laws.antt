@@ -5,7 +5,7 @@ use mathlib.Core.Bool.{Bool, true, false, ◌&&◌, ◌||◌, true≢false}
 use mathlib.Core.List.{List, [], ◌∷◌}
 use Prim.Native.Nat.{ℕ, ◌+◌, ◌-◌, ◌^◌, ◌≤◌}
 use native.Mathlib.Omega.{arith}
-use borrow.Author.Tests.{leb-true, leb-false, le-leb, lt-leb}
+use borrow.Author.Tests.{leb-true, le-leb}
 use lib.Dec.{leb}
 use Rattle.words.specs.declared.count.Counts.{Counts}
 use Rattle.words.specs.Counts.{Countable}
@@ -37,23 +37,12 @@ pub all_no : (t : Bool) (us : List Bool) → Holds t us → all_of t us ≡ true
 all_no t [] h = h
 all_no t (u ∷ us) h = rw h.0 (all_no u us h.1)
 
-pub both : (a b : Bool) → (a && b) ≡ true → (a ≡ true) × (b ≡ true)
-both a b h = all_yes a (b ∷ []) h
-
 pub each : (a b : Bool) → a ≡ true → b ≡ true → (a && b) ≡ true
 each a b h k = all_no a (b ∷ []) (h, k)
 
 pub or_left : (a b : Bool) → (a || b) ≡ true → a ≡ false → b ≡ true
 or_left true b h e = absurd (true≢false e)
 or_left false b h e = h
-
--- two numbers together are no more than m, tested with no sum
-pub room_is : (a b m : ℕ) → a ≤ m → leb b (m - a) ≡ leb (a + b) m
-room_is a b m h = by (leb b (m - a)) refl
-  where
-    by : (t : Bool) → leb b (m - a) ≡ t → t ≡ leb (a + b) m
-    by true e = sym (le-leb (a + b) m (omega (arith, leb-true b (m - a) e)))
-    by false e = sym (lt-leb (a + b) m (omega (arith, leb-false b (m - a) e)))
 
 pub record FewCounts (n : Counts) (left : ℕ) : Type 0 where
   pub counts : Countable n

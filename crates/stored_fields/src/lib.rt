@@ -1,4 +1,4 @@
-// The single words of a stored planner: signed numbers and counts; sums that could wrap are tested with none.
+// The single words of a stored planner: signed numbers and counts, and tests of them that no sum overflows in.
 #![tactic(auto)]
 
 ghost use Rattle.std.specs.Prelude.{◌≡◌, ◌+◌, leb};
@@ -8,6 +8,9 @@ ghost use Rattle.signed.specs.Diff.{up, dn};
 ghost use Rattle.stored_fields.specs.Test.{counts_test};
 
 use words::Counts;
+
+// A planner's words.
+pub type State = [u64; 39];
 
 // A word as a signed number.
 pub fn signed_of(n: u64) -> i64
@@ -20,26 +23,20 @@ pub fn signed_of(n: u64) -> i64
 pub fn above(n: u64) -> u64
     ensures { result ≡ up (to_z w64 n) }
 {
-    if n < 0x8000_0000_0000_0000 { n } else { 0 }
+    signed::positive(signed_of(n))
 }
 
 pub fn below(n: u64) -> u64
     ensures { result ≡ dn (to_z w64 n) }
 {
-    if n < 0x8000_0000_0000_0000 {
-        return 0;
-    }
-    0xffff_ffff_ffff_ffff - n + 1
+    signed_of(n).min(0).unsigned_abs()
 }
 
 // Whether two numbers together are no more than m.
 pub fn room(a: u64, b: u64, m: u64) -> bool
     ensures { result ≡ leb (a + b) m }
 {
-    if m < a {
-        return false;
-    }
-    b <= m - a
+    a.checked_add(b).is_some_and(|sum| sum <= m)
 }
 
 // Counts that go with a course that has at most `left` entries to come.

@@ -10,6 +10,7 @@ use lib.Dec.{leb, eqb}
 use lib.IntN.{ℤ, pos, negsuc, ◌+ℤ◌, ◌-ℤ◌}
 use lib.Signed.{◌≤ℤ◌, lt_z}
 use lib.ListN.{get_or}
+use Rattle.std.proofs.lemmas.Bool.{and_parts}
 use Rattle.signed.specs.Diff.{up, dn, zdiff, zparts, zarith}
 use Rattle.signed.specs.Floor.{floor_div, modulo}
 use Rattle.measures.specs.Measure.{in_quarters, in_thirty_seconds}
@@ -26,7 +27,7 @@ use Rattle.loads.specs.declared.types.Stage.TheVariants as stage
 use Rattle.loads.specs.declared.types.Place.{Place}
 use Rattle.loads.specs.Comes.{bounded, within}
 use Rattle.loads.specs.Sound.{SoundWalk, SoundPass, SoundPart, SoundPiece, SoundRect, SoundStart, SoundAt}
-use Rattle.stored_fields.proofs.Laws.{all_yes, all_no, both, each, or_left, word_back, up_back, small_below, below_small, le_at, ge_at, at_le, at_ge, not_below, below_not, same_parts, some_dn}
+use Rattle.stored_fields.proofs.Laws.{all_yes, all_no, each, or_left, word_back, up_back, small_below, below_small, le_at, ge_at, at_le, at_ge, not_below, below_not, same_parts, some_dn}
 use Rattle.stored_fields.specs.Signed.{signed_at}
 use Rattle.stored_scaled.specs.Course.{piece_word, scaled_words, FitsPlace, piece_from, scaled_from, walk_from, place_from, scaled_tests, scaled_test, walk_tests, walk_test, due_of, pass_tests, pass_test, piece_tests, piece_test, rest_test, rect_test, at_start, at_pass, at_piece, at_rect, stage_test}
 
@@ -131,7 +132,7 @@ pass_yes p z m t =
       rows' = le_at p.rows 512 (leb-true _ _ h.1.1.1.1.0);
       whole = λ l.
           let k = left_yes w.frame_remain (draw_of w) (some_dn w.frame_remain r) l in
-          let e = both _ _ (or_left _ _ h.1.1.1.1.1 (lt-leb _ _ (rw d at k))) in
+          let e = and_parts _ _ (or_left _ _ h.1.1.1.1.1 (lt-leb _ _ (rw d at k))) in
           same_parts p.rows w.slice_rows (eqb-true _ _ e.0) (eqb-true _ _ e.1);
     }
 
@@ -196,7 +197,7 @@ module _ (p : Place) (s : SoundPass p) where
   rect_after t =
       let z = s.scaled in
       let w = s.walk in
-      let e = both (leb (dn p.next.remain + 1280000 * (up p.walk.frame_remain - due_of p.walk)) (2 ^ 40 + 20000 * ((up p.walk.count % 1024 + p.scaled.frame_rows) / 16))) (leb (up p.next.remain) (2 ^ 28)) t in
+      let e = and_parts (leb (dn p.next.remain + 1280000 * (up p.walk.frame_remain - due_of p.walk)) (2 ^ 40 + 20000 * ((up p.walk.count % 1024 + p.scaled.frame_rows) / 16))) (leb (up p.next.remain) (2 ^ 28)) t in
       let l = left_is in
       let n : p.lines ≡ min (due_of p.walk) (up p.walk.frame_remain) = s.lines ∙ ap (lines_of p.walk) (due_of_lem p.walk.count) ∙ lines_of_lem p.walk (due_of p.walk) s.left in
       let a : dn p.next.remain + 1280000 * (up p.walk.frame_remain - due_of p.walk) ≤ 2 ^ 40 + 20000 * ((up p.walk.count % 1024 + p.scaled.frame_rows) / 16) = leb-true _ _ e.0 in
@@ -243,16 +244,16 @@ module _ (p : Place) (s : SoundPass p) where
 
 pub start_yes : (ws : List ℕ) → at_start ws ≡ true → SoundStart (place_from ws)
 unfolding place_from
-start_yes ws t = let e = both _ _ t in record { scaled = scaled_yes ws e.0; walk = walk_yes (walk_from ws) (part_yes ws e.0) e.1 }
+start_yes ws t = let e = and_parts _ _ t in record { scaled = scaled_yes ws e.0; walk = walk_yes (walk_from ws) (part_yes ws e.0) e.1 }
 
 pub made_pass : (ws : List ℕ) → at_pass ws ≡ true → SoundPass (place_from ws)
-made_pass ws t = let e = both _ _ t in let s = start_yes ws e.0 in pass_yes (place_from ws) s.scaled s.walk e.1
+made_pass ws t = let e = and_parts _ _ t in let s = start_yes ws e.0 in pass_yes (place_from ws) s.scaled s.walk e.1
 
 made_piece : (ws : List ℕ) → at_piece ws ≡ true → SoundPiece (place_from ws)
-made_piece ws t = let e = both _ _ t in record { pass = made_pass ws e.0; part = piece_yes (place_from ws).part e.1 }
+made_piece ws t = let e = and_parts _ _ t in record { pass = made_pass ws e.0; part = piece_yes (place_from ws).part e.1 }
 
 made_rect : (ws : List ℕ) → at_rect ws ≡ true → SoundRect (place_from ws)
-made_rect ws t = let e = both _ _ t in rect_yes (place_from ws) (made_pass ws e.0) e.1
+made_rect ws t = let e = and_parts _ _ t in rect_yes (place_from ws) (made_pass ws e.0) e.1
 
 pub stage_yes : (s : Stage) (ws : List ℕ) → stage_test s ws ≡ true → SoundAt s (place_from ws)
 stage_yes stage.First ws t = start_yes ws t

@@ -1,4 +1,4 @@
-// A scaled course in words and out of them, and the test of such words that is what a step asks of its place.
+// A scaled course in words and out of them, and the test of such words that is what a step asks of its place. A word goes by its place in the list of `scaled_words`, as in crates/stored_copy.
 #![tactic(auto)]
 
 ghost use Rattle.std.specs.Prelude.{◌≡◌, ◌^◌, ◌≤◌, get_or};
@@ -11,7 +11,7 @@ use loads::{Part, Piece, Place, Stage};
 use measures::{Quarters, Scale, ThirtySeconds, quarters, thirty_seconds};
 use plan::{Scaled, Source, Walk};
 use signed::word_of;
-use stored_fields::{above, below, room, signed_of};
+use stored_fields::{State, above, below, room, signed_of};
 use words::Counts;
 
 fn stage_word(s: Stage) -> u64
@@ -26,7 +26,7 @@ fn piece_word(s: Piece) -> u64
     s as u64
 }
 
-pub fn scaled_words(stage: Stage, p: Place, n: Counts) -> [u64; 39]
+pub fn scaled_words(stage: Stage, p: Place, n: Counts) -> State
     ensures { (result ≡ scaled_words stage p n) × FitsPlace p }
 {
     let z = p.scaled;
@@ -94,7 +94,7 @@ pub fn scaled_words(stage: Stage, p: Place, n: Counts) -> [u64; 39]
     ]
 }
 
-// Total, as `stored` says of verdicts.
+// Total, and likewise for pieces: `stored::load` refuses a number that is none, as its words are not those of what it reads as.
 pub fn stage_from(k: u64) -> Stage
     ensures { result ≡ stage_from k }
 {
@@ -124,7 +124,7 @@ fn piece_from(k: u64) -> Piece
     }
 }
 
-fn scaled_from(words: &[u64; 39]) -> Scaled
+fn scaled_from(words: &State) -> Scaled
     ensures { result ≡ scaled_from words.now }
 {
     let x = Quarters(signed_of(words[9]));
@@ -153,7 +153,7 @@ fn scaled_from(words: &[u64; 39]) -> Scaled
     }
 }
 
-fn walk_from(words: &[u64; 39]) -> Walk
+fn walk_from(words: &State) -> Walk
     ensures { result ≡ walk_from words.now }
 {
     let frame_remain = signed_of(words[23]);
@@ -175,7 +175,7 @@ fn walk_from(words: &[u64; 39]) -> Walk
     }
 }
 
-pub fn place_from(words: &[u64; 39]) -> Place
+pub fn place_from(words: &State) -> Place
     ensures { result ≡ place_from words.now }
 {
     let scaled = scaled_from(words);
@@ -210,7 +210,7 @@ pub fn place_from(words: &[u64; 39]) -> Place
 
 // What no pass changes, and the walk's part of a row.
 #[tactic(auto, unfolding(crate::specs::Course::scaled_test))]
-fn scaled_sound(words: &[u64; 39]) -> bool
+fn scaled_sound(words: &State) -> bool
     ensures { result ≡ scaled_test words.now }
 {
     (words[5] <= 255)
@@ -237,7 +237,7 @@ fn scaled_sound(words: &[u64; 39]) -> bool
         & (words[26] <= 31)
 }
 
-fn walk_sound(words: &[u64; 39]) -> bool
+fn walk_sound(words: &State) -> bool
     ensures { result ≡ walk_test (walk_from words.now) }
 {
     let lines = above(words[23]);
@@ -262,14 +262,14 @@ fn walk_sound(words: &[u64; 39]) -> bool
 }
 
 // The rows are those of the walk where another pass follows.
-fn whole_sound(words: &[u64; 39]) -> bool
+fn whole_sound(words: &State) -> bool
     ensures { result ≡ whole_test (place_from words.now) }
 {
     (above(words[23]) <= above(words[24]) / 1024)
         | ((above(words[29]) == above(words[25])) & (below(words[29]) == below(words[25])))
 }
 
-fn pass_sound(words: &[u64; 39]) -> bool
+fn pass_sound(words: &State) -> bool
     ensures { result ≡ pass_test (place_from words.now) }
 {
     let lines = above(words[23]);
@@ -282,7 +282,7 @@ fn pass_sound(words: &[u64; 39]) -> bool
         & whole_sound(words)
 }
 
-fn piece_sound(words: &[u64; 39]) -> bool
+fn piece_sound(words: &State) -> bool
     ensures { result ≡ piece_test (place_from words.now).part }
 {
     (below(words[32]) <= 0x8000_0000_0000)
@@ -291,7 +291,7 @@ fn piece_sound(words: &[u64; 39]) -> bool
         & (above(words[34]) <= 0x7fff_ffff_ffff)
 }
 
-fn rect_sound(words: &[u64; 39]) -> bool
+fn rect_sound(words: &State) -> bool
     requires { (up (signed_at words.now 23) ≤ 1023) × (get_or words.now 18 0 ≤ 2 ^ 29) }
     ensures { result ≡ rect_test (place_from words.now) }
 {
@@ -307,25 +307,25 @@ fn rect_sound(words: &[u64; 39]) -> bool
         ) & (above(words[37]) <= 0x1000_0000))
 }
 
-fn at_start(words: &[u64; 39]) -> bool
+fn at_start(words: &State) -> bool
     ensures { result ≡ at_start words.now }
 {
     scaled_sound(words) & walk_sound(words)
 }
 
-fn at_pass(words: &[u64; 39]) -> bool
+fn at_pass(words: &State) -> bool
     ensures { result ≡ at_pass words.now }
 {
     at_start(words) & pass_sound(words)
 }
 
-fn at_piece(words: &[u64; 39]) -> bool
+fn at_piece(words: &State) -> bool
     ensures { result ≡ at_piece words.now }
 {
     at_pass(words) & piece_sound(words)
 }
 
-fn at_rect(words: &[u64; 39]) -> bool
+fn at_rect(words: &State) -> bool
     ensures { result ≡ at_rect words.now }
 {
     if !at_pass(words) {
@@ -335,19 +335,13 @@ fn at_rect(words: &[u64; 39]) -> bool
 }
 
 // What a step asks of the place, by its stage.
-pub fn stage_sound(stage: Stage, words: &[u64; 39]) -> bool
+pub fn stage_sound(stage: Stage, words: &State) -> bool
     ensures { result ≡ stage_test stage words.now }
 {
     match stage {
-        Stage::First => at_start(words),
-        Stage::Second => at_start(words),
-        Stage::Whole => at_pass(words),
-        Stage::WholeLoad => at_pass(words),
-        Stage::Tile => at_piece(words),
-        Stage::Image => at_piece(words),
-        Stage::Load => at_piece(words),
-        Stage::Last => at_pass(words),
-        Stage::Size => at_start(words),
+        Stage::First | Stage::Second | Stage::Size => at_start(words),
+        Stage::Whole | Stage::WholeLoad | Stage::Last => at_pass(words),
+        Stage::Tile | Stage::Image | Stage::Load => at_piece(words),
         Stage::Rect => at_rect(words),
     }
 }
@@ -366,7 +360,7 @@ fn after_piece(piece: Piece) -> u64
 
 // The entries that are still to come, at the most.
 #[tactic(auto, unfolding(crate::specs::Course::place_from, crate::specs::Course::walk_from))]
-pub fn scaled_left(stage: Stage, words: &[u64; 39]) -> u64
+pub fn scaled_left(stage: Stage, words: &State) -> u64
     requires { up (signed_at words.now 23) ≤ 1023 }
     ensures { result ≡ left_at stage (place_from words.now) }
 {

@@ -25,7 +25,7 @@ fn near(frame: Quarters, low: Quarters) -> Quarters
     requires { (Within 15 frame.0) × Below 12 low.0 }
     ensures { (result ≡ in_quarters (pos (max (quarters frame) (quarters low)))) × Below 15 result.0 }
 {
-    if frame.0 <= low.0 { low } else { frame }
+    Quarters(frame.0.max(low.0))
 }
 
 // The cells from the near edge to the far one, which is the frame's or the scissor's.
@@ -34,12 +34,8 @@ fn cells_in(frame: Quarters, size: Quarters, high: Quarters, near: Quarters) -> 
     requires below { (Below 12 high.0) × Below 15 near.0 }
     ensures { result ≡ texels (up (min_z (frame.0 +ℤ size.0) high.0 -ℤ near.0)) }
 {
-    let end = frame.0 + size.0;
-    if end <= high.0 {
-        measures::texels(Quarters(end - near.0))
-    } else {
-        measures::texels(Quarters(high.0 - near.0))
-    }
+    let end = (frame.0 + size.0).min(high.0);
+    measures::texels(Quarters(end - near.0))
 }
 
 // The cells of the frame before the near edge.
@@ -61,7 +57,7 @@ fn axis_of(frame: Quarters, size: Quarters, low: i32, high: i32) -> Axis
     Axis { edge, cells, skip }
 }
 
-// The texels in a word of texture memory: its 64 bits over the bits of a texel, by the sizes of the GBI headers.
+// The texels in a word of texture memory: its 64 bits over the bits of a texel, by the sizes of the GBI headers. Four cases and no shift, as the customer asked for them (docs/changes/paper-03.md).
 pub fn texels_per_word(siz: u8) -> u64
     requires { siz ≤ 3 }
     ensures { result ≡ 16 / 2 ^ siz }
@@ -92,9 +88,9 @@ pub fn copy_of(bg: ObjBg, scissor: Scissor, address: u64) -> Copy
     let left = across.edge;
     let top = down.edge;
     Copy {
-        fmt: bg.image_fmt as u64,
-        siz: bg.image_siz as u64,
-        palette: palette as u64,
+        fmt: u64::from(bg.image_fmt),
+        siz: u64::from(bg.image_siz),
+        palette: u64::from(palette),
         flip: bg.image_flip % 2 == 1,
         address,
         rows,

@@ -56,17 +56,17 @@ fn aligned(c: Copy, n: u64) -> u64
     n / c.texels_per_word * c.texels_per_word
 }
 
-// The words of a line.
+// The words of a line. By cases, so that each quotient is by a constant, which the compiler turns into a shift.
 fn line_of(siz: u64, load_width: u64) -> u64
     requires siz_bound { siz ≤ 3 }
     requires load_width_bound { load_width ≤ 16383 }
     ensures { result ≡ line_of siz load_width }
 {
     match siz {
-        0 => (load_width + 15) / 16,
-        1 => (load_width * 2 + 15) / 16,
-        2 => (load_width * 4 + 15) / 16,
-        _ => (load_width * 8 + 31) / 32,
+        0 => load_width.div_ceil(16),
+        1 => (load_width * 2).div_ceil(16),
+        2 => (load_width * 4).div_ceil(16),
+        _ => (load_width * 8).div_ceil(32),
     }
 }
 

@@ -24,6 +24,15 @@ pub struct Tile {
     pub tmem_addr: u16,
 }
 
+// A tile's first and last column and row, in quarters of a texel: a setter and a load's request take them together.
+#[derive(Clone, Copy)]
+pub struct Bounds {
+    pub uls: u16,
+    pub ult: u16,
+    pub lrs: u16,
+    pub lrt: u16,
+}
+
 #[derive(Clone, Copy)]
 pub struct Bank {
     pub tiles: [Tile; 8],
@@ -76,27 +85,28 @@ pub fn texels(low: u16, high: u16) -> u16
 }
 
 // A tile with other bounds, and the width and height that follow.
-fn resized(old: Tile, uls: u16, ult: u16, lrs: u16, lrt: u16) -> Tile
-    ensures { result ≡ resized_to old uls ult lrs lrt }
+fn resized(old: Tile, bounds: Bounds) -> Tile
+    ensures { result ≡ resized_to old bounds.uls bounds.ult bounds.lrs bounds.lrt }
 {
-    let mut tile = old;
-    tile.uls = uls;
-    tile.ult = ult;
-    tile.lrs = lrs;
-    tile.lrt = lrt;
-    tile.width = texels(uls, lrs);
-    tile.height = texels(ult, lrt);
-    tile
+    Tile {
+        uls: bounds.uls,
+        ult: bounds.ult,
+        lrs: bounds.lrs,
+        lrt: bounds.lrt,
+        width: texels(bounds.uls, bounds.lrs),
+        height: texels(bounds.ult, bounds.lrt),
+        ..old
+    }
 }
 
 // Sets a tile's bounds; nothing where there is no such tile.
 #[tactic(auto, unfolding(crate::specs::Bank::set_size))]
-fn with_tile_size(bank: Bank, index: usize, uls: u16, ult: u16, lrs: u16, lrt: u16) -> Bank
-    ensures { result ≡ set_size bank index uls ult lrs lrt }
+fn with_tile_size(bank: Bank, index: usize, bounds: Bounds) -> Bank
+    ensures { result ≡ set_size bank index bounds.uls bounds.ult bounds.lrs bounds.lrt }
 {
     let mut next = bank;
     if index < 8 {
-        next.tiles[index] = resized(bank.tiles[index], uls, ult, lrs, lrt);
+        next.tiles[index] = resized(bank.tiles[index], bounds);
     }
     next
 }
@@ -107,10 +117,10 @@ pub fn set_tile(bank: &mut Bank, index: usize, tile: Tile)
     *bank = with_tile(*bank, index, tile);
 }
 
-pub fn set_tile_size(bank: &mut Bank, index: usize, uls: u16, ult: u16, lrs: u16, lrt: u16)
-    ensures { bank.new ≡ set_size bank.old index uls ult lrs lrt }
+pub fn set_tile_size(bank: &mut Bank, index: usize, bounds: Bounds)
+    ensures { bank.new ≡ set_size bank.old index bounds.uls bounds.ult bounds.lrs bounds.lrt }
 {
-    *bank = with_tile_size(*bank, index, uls, ult, lrs, lrt);
+    *bank = with_tile_size(*bank, index, bounds);
 }
 
 // An owner's bank after it was lent to a setter.
@@ -123,10 +133,10 @@ pub fn tile_set(bank: Bank, index: usize, tile: Tile) -> Bank
     next
 }
 
-pub fn size_set(bank: Bank, index: usize, uls: u16, ult: u16, lrs: u16, lrt: u16) -> Bank
-    ensures { result ≡ set_size bank index uls ult lrs lrt }
+pub fn size_set(bank: Bank, index: usize, bounds: Bounds) -> Bank
+    ensures { result ≡ set_size bank index bounds.uls bounds.ult bounds.lrs bounds.lrt }
 {
     let mut next = bank;
-    set_tile_size(&mut next, index, uls, ult, lrs, lrt);
+    set_tile_size(&mut next, index, bounds);
     next
 }

@@ -7,6 +7,8 @@
 //
 // The object and the plan may have any length. A call with another number of words in one of the others answers 1 and changes nothing.
 // A call that answers 0 has done all of its work: nothing is kept from one call to the next.
+//
+// What is written is tested by its length and stays a slice: the conversion to an array that may be written promises nothing of the slice afterwards, refused or not. The bank goes on as a slice, since the functions below take one of any length.
 #![tactic(auto)]
 
 ghost use Rattle.std.specs.Prelude.{◌≡◌};
@@ -15,8 +17,7 @@ ghost use Rattle.applying.specs.Applied.{applied};
 ghost use Rattle.version.specs.Version.{version_of};
 
 use applying::NoEntry;
-
-const REQUEST: usize = 7;
+use request::Request;
 
 const BANK: usize = 136;
 
@@ -34,7 +35,7 @@ pub fn visor_run(
 ) -> u64
     ensures { left result bank.new plan.new end.new ≡ host_run object.now request.now bank.old plan.old end.old }
 {
-    let Ok(request) = <&[u64; REQUEST]>::try_from(request) else {
+    let Ok(q) = Request::try_from(request) else {
         return 1;
     };
     if bank.len() != BANK {
@@ -43,7 +44,6 @@ pub fn visor_run(
     if end.len() != END {
         return 1;
     }
-    let q = request::from_words(request);
     let ended = runs::run(object, q, &mut *bank, &mut *plan);
     end.copy_from_slice(&giving::end_numbers(ended));
     0
@@ -53,13 +53,12 @@ pub fn visor_run(
 pub fn visor_count(object: &[u8], request: &[u64], end: &mut [u64]) -> u64
     ensures { counted result end.new ≡ host_count object.now request.now end.old }
 {
-    let Ok(request) = <&[u64; REQUEST]>::try_from(request) else {
+    let Ok(q) = Request::try_from(request) else {
         return 1;
     };
     if end.len() != END {
         return 1;
     }
-    let q = request::from_words(request);
     let ended = runs::count(object, q);
     end.copy_from_slice(&giving::end_numbers(ended));
     0

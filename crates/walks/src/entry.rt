@@ -11,6 +11,7 @@ ghost use Rattle.loads.specs.Sound.{SoundPass, SoundPart, loaded_out};
 use loads::{Part, Place, Refused};
 use measures::Quarters;
 use plan::{Entry, Scaled};
+use tile::Bounds;
 
 // The loads' texels are of 16 bits, or of 32 for siz 3.
 fn load_size(siz: u64) -> u64
@@ -27,7 +28,7 @@ pub fn tile7(z: Scaled, destination: i64) -> Entry
         fmt: 0,
         siz: load_size(z.siz),
         line: z.line % 65536,
-        tmem: signed::low16(destination) as u64,
+        tmem: u64::from(signed::low16(destination)),
         palette: 0,
         cms: 0,
         cmt: 0,
@@ -68,7 +69,7 @@ pub fn image(z: Scaled, pointer: u64) -> Entry
     Entry::Image {
         fmt: 0,
         siz: load_size(z.siz),
-        width: width_field(z.stride) as u64,
+        width: u64::from(width_field(z.stride)),
         address: pointer,
     }
 }
@@ -104,27 +105,13 @@ pub fn load(z: Scaled, q: Part) -> Result<Entry, Refused>
     let lrt = lower(z, q.rows);
     let field = width_field(z.stride);
     let siz = load_size(z.siz) as u8;
-    match load_tile::load_request(siz, field, q.pointer, 0, 0, lrs, lrt) {
-        Some(request) => Ok(Entry::Load {
-            index: 7,
-            uls: 0,
-            ult: 0,
-            lrs: lrs as u64,
-            lrt: lrt as u64,
-            words: request.words,
-            rows: request.rows,
-            stride: request.stride,
-            start: request.start,
-            length: request.length,
-        }),
-        None => Err(Refused(Entry::Size {
-            index: 7,
-            uls: 0,
-            ult: 0,
-            lrs: lrs as u64,
-            lrt: lrt as u64,
-        })),
-    }
+    let bounds = Bounds {
+        uls: 0,
+        ult: 0,
+        lrs,
+        lrt,
+    };
+    loading::tile7_load(siz, field, q.pointer, bounds).map_err(Refused)
 }
 
 // A texture coordinate or a step, cut to its 16 bits.
@@ -157,15 +144,13 @@ pub fn rect(p: Place) -> Entry
 {
     let z = p.scaled;
     let w = p.walk;
-    let source = w.source;
-    let y = w.frame_y;
-    let rows = z.source_rows as i64 - source.remain;
+    let rows = z.source_rows as i64 - w.source.remain;
     Entry::Rect {
         tile: 0,
         ulx: position(z.x),
-        uly: line_at(y),
+        uly: line_at(w.frame_y),
         lrx: position(z.x_end),
-        lry: line_at(y + p.lines),
+        lry: line_at(w.frame_y + p.lines),
         uls: short(z.s.0),
         ult: short(w.t.0),
         dsdx: short(z.scale_w.0 as i64),

@@ -27,15 +27,12 @@ fn next_walk(z: Scaled, y: u64, left: i64, count: i64, source: Source) -> Walk
     requires within { Within 61 count }
     ensures { result ≡ next_pass z y left count source }
 {
-    let count = plus(count, z.frame_rows);
-    let rows = z.image_rows as i64;
-    let t = ThirtySeconds(0);
     Walk {
         frame_y: y,
         frame_remain: left,
-        count,
-        slice_rows: rows,
-        t,
+        count: plus(count, z.frame_rows),
+        slice_rows: z.image_rows as i64,
+        t: ThirtySeconds(0),
         source,
     }
 }
@@ -60,9 +57,7 @@ fn cut_rows(z: Scaled, rows: i64, left: i64) -> i64
 {
     if left < 0 {
         let over = measures::signed_whole(times(left, z.scale_h.0));
-        let cut = plus(sum(rows, over), 1);
-        let most = z.image_rows as i64;
-        if cut <= most { cut } else { most }
+        plus(sum(rows, over), 1).min(z.image_rows as i64)
     } else {
         rows
     }
@@ -76,12 +71,12 @@ fn draw(w: Walk, p: Place) -> Begun
 {
     let draw = lines_due(w.count);
     let left = less(w.frame_remain, draw);
-    let lines = cut_lines(draw, left);
-    let rows = cut_rows(p.scaled, w.slice_rows, left);
-    let mut q = p;
-    q.walk = w;
-    q.rows = rows;
-    q.lines = lines;
+    let q = Place {
+        walk: w,
+        rows: cut_rows(p.scaled, w.slice_rows, left),
+        lines: cut_lines(draw, left),
+        ..p
+    };
     Ok((Piece::Start, q))
 }
 
@@ -93,12 +88,10 @@ fn running(walk: Walk, p: Place) -> Begun
     if lines_due(walk.count) != 0 {
         return draw(walk, p);
     }
-    let source = walk.source;
-    let next = advance(p.scaled, source, walk.slice_rows).ok_or(Verdict::Address)?;
+    let next = advance(p.scaled, walk.source, walk.slice_rows).ok_or(Verdict::Address)?;
     let mut w = next_walk(p.scaled, walk.frame_y, walk.frame_remain, walk.count, next);
     while lines_due(w.count) == 0 {
-        let source = w.source;
-        let next = forward(p.scaled, source).ok_or(Verdict::Address)?;
+        let next = forward(p.scaled, w.source).ok_or(Verdict::Address)?;
         w = next_walk(p.scaled, w.frame_y, w.frame_remain, w.count, next);
     }
     draw(w, p)
@@ -110,8 +103,7 @@ pub fn next_pass(w: Walk, p: Place) -> Begun
     requires sound_walk { pos 1 ≤ℤ w.frame_remain → SoundWalk w }
     ensures { Begins (plan_out (passes_of p.scaled w)) (14 * up w.frame_remain) result }
 {
-    let remain = w.frame_remain;
-    if remain <= 0 {
+    if w.frame_remain <= 0 {
         return Err(Verdict::Finished);
     }
     running(w, p)
@@ -125,7 +117,6 @@ pub fn drawn(p: Place) -> Walk
     let w = p.walk;
     let draw = lines_due(w.count);
     let left = less(w.frame_remain, draw);
-    let y = w.frame_y + p.lines;
     let count = masks::signed_low10(w.count) as i64;
-    next_walk(p.scaled, y, left, count, p.next)
+    next_walk(p.scaled, w.frame_y + p.lines, left, count, p.next)
 }

@@ -10,7 +10,7 @@ pub fn put(to: &mut [u64], at: usize, from: &[u64])
     to[at..at + from.len()].copy_from_slice(from);
 }
 
-// Eleven words.
+// Eleven words. By the slice's own copy, as a call of `put` would be no shorter, and the number copied would no longer be a constant.
 pub fn store(plan: &mut [u64], at: usize, words: [u64; 11])
     requires { at + 11 ≤ length plan.old }
     ensures { plan.new ≡ paste plan.old at words 11 }

@@ -7,6 +7,7 @@ use object::Verdict;
 use plan::{End, Entry};
 
 // What an end tells of the entries before it, and `line`, tile 7's as they set it.
+// `Countable` is no invariant of the type: counts that meet it may not do so after one entry more. A planner knows how many come, and has it in its own invariant.
 #[derive(Clone, Copy)]
 pub struct Counts {
     pub entries: u64,
@@ -36,8 +37,7 @@ pub fn counted(n: Counts, e: Entry) -> Counts
         Entry::Rect { .. } => {
             next.rectangles = n.rectangles + 1;
         }
-        Entry::Image { .. } => {}
-        Entry::Size { .. } => {}
+        Entry::Image { .. } | Entry::Size { .. } => {}
     }
     next
 }

@@ -6,9 +6,9 @@ ghost use Rattle.plan.specs.Run.{descriptor, bank_step, entry_words, end_words};
 use checks::number;
 use plan::{End, Entry};
 use signed::word_of;
-use tile::{Bank, Tile, size_set, tile_set};
+use tile::{Bank, Bounds, Tile, size_set, tile_set};
 
-// The words of each kind: its number, what it gives, signed numbers modulo 2^64, then zeros.
+// The words of each kind: its number, what it gives, signed numbers modulo 2^64, then zeros. Each takes up to ten numbers and no struct: a kind's numbers are the variant's own in every definition.
 
 #[tactic(auto, unfolding(plan::specs::Run::entry_words))]
 pub fn image_words(fmt: u64, siz: u64, width: u64, address: u64) -> [u64; 11]
@@ -156,10 +156,9 @@ pub fn entry_words(e: Entry) -> [u64; 11]
 pub fn end_words(end: End) -> [u64; 11]
     ensures { result ≡ end_words end }
 {
-    let v = end.verdict;
     [
         9,
-        number(v),
+        number(end.verdict),
         end.entries,
         end.rectangles,
         end.words,
@@ -245,15 +244,8 @@ pub fn bank_after(bank: Bank, e: Entry) -> Bank
             ult,
             lrs,
             lrt,
-        } => size_set(
-            bank,
-            index as usize,
-            uls as u16,
-            ult as u16,
-            lrs as u16,
-            lrt as u16,
-        ),
-        Entry::Load {
+        }
+        | Entry::Load {
             index,
             uls,
             ult,
@@ -263,12 +255,13 @@ pub fn bank_after(bank: Bank, e: Entry) -> Bank
         } => size_set(
             bank,
             index as usize,
-            uls as u16,
-            ult as u16,
-            lrs as u16,
-            lrt as u16,
+            Bounds {
+                uls: uls as u16,
+                ult: ult as u16,
+                lrs: lrs as u16,
+                lrt: lrt as u16,
+            },
         ),
-        Entry::Image { .. } => bank,
-        Entry::Rect { .. } => bank,
+        Entry::Image { .. } | Entry::Rect { .. } => bank,
     }
 }

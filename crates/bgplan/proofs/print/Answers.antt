@@ -1,6 +1,7 @@
 -- A call's text is out and the rest is to come: the pieces joined are the whole text.
 use Rattle.std.proofs.Common.{arith, refl, sym, ap, ◌∙◌, ◌≡◌, [], ◌++◌, List, ℕ, Bool, true, false, take, append_assoc, append-nil, subst}
 use Rattle.std.proofs.lemmas.List.{length-replicate}
+use Rattle.std.specs.Option.{is_some}
 use Rattle.std.specs.Io.KnownBytes.{Appends}
 use Rattle.std.proofs.KnownBytes.{Appends-nil, Appends-trans}
 use Rattle.planner.specs.Planner.{Planner}
@@ -12,31 +13,31 @@ use Rattle.bgplan.proofs.print.Goals as goal
 
 -- the text out before, a call's, and what that leaves to come
 module _ (k : List ℕ) (text : List ℕ) (p : Planner) (out out' : List ℕ) (r : Chunk) (i : ChunkIs (coming p) out out' r) (rest : k ≡ text ++ coming_text (coming p)) where
-  so_far : (done : Bool) → r.done ≡ done → k ≡ (text ++ take r.count out') ++ left_text done (coming r.planner)
+  so_far : (done : Bool) → is_some r.end ≡ done → k ≡ (text ++ take r.count out') ++ left_text done (coming r.planner)
   so_far done e =
       rest ∙ ap (λ t. text ++ t) (call_left (coming p) out out' r i ∙ ap (λ (d : Bool). take r.count out' ++ left_text d (coming r.planner)) e)
       ∙ sym (append_assoc text (take r.count out') _)
 
-pub loop-planner-init : goal.loop-planner-init
-loop-planner-init g c = record { text = []; out = Appends-nil _; rest = refl; room = length-replicate {A = ℕ} 262144 0 }
+pub loop-chunk-init : goal.loop-chunk-init
+loop-chunk-init g c = record { text = []; out = Appends-nil _; rest = refl; room = length-replicate {A = ℕ} 262144 0 }
 
-pub returns-then-chunk : goal.returns-then-chunk
-returns-then-chunk g c =
-    let l = c.loop-planner in
-    let s = so_far _ l.invariant.text _ _ _ _ c.next_text-chunk.ensures l.invariant.rest true c.if-chunk.true ∙ append-nil _ in
+pub returns-then-is_some : goal.returns-then-is_some
+returns-then-is_some g c =
+    let l = c.loop-chunk in
+    let s = so_far _ l.invariant.text _ _ _ _ c.next_text-chunk.ensures l.invariant.rest true (sym c.is_some.ensures ∙ c.if-is_some.true) ∙ append-nil _ in
     subst (Appends _ _) (sym s) (Appends-trans _ _ _ _ _ l.invariant.out c.in_ok-write_all.ensures.bytes)
 
-pub loop-planner-smaller : goal.loop-planner-smaller
-loop-planner-smaller g c =
-    let l = c.loop-planner in
-    call_fewer _ _ _ _ c.next_text-chunk.ensures (omega (arith, l.invariant.room)) c.if-chunk.false
+pub loop-chunk-smaller : goal.loop-chunk-smaller
+loop-chunk-smaller g c =
+    let l = c.loop-chunk in
+    call_fewer _ _ _ _ c.next_text-chunk.ensures (omega (arith, l.invariant.room)) (sym c.is_some.ensures ∙ c.if-is_some.false)
 
-pub loop-planner-preserved : goal.loop-planner-preserved
-loop-planner-preserved g c =
-    let l = c.loop-planner in
+pub loop-chunk-preserved : goal.loop-chunk-preserved
+loop-chunk-preserved g c =
+    let l = c.loop-chunk in
     record {
       text = _;
       out = Appends-trans _ _ _ _ _ l.invariant.out c.in_ok-write_all.ensures.bytes;
-      rest = so_far _ l.invariant.text _ _ _ _ c.next_text-chunk.ensures l.invariant.rest false c.if-chunk.false;
+      rest = so_far _ l.invariant.text _ _ _ _ c.next_text-chunk.ensures l.invariant.rest false (sym c.is_some.ensures ∙ c.if-is_some.false);
       room = c.next_text-chunk.auto.out ∙ l.invariant.room;
     }

@@ -12,8 +12,8 @@ pub record Printing {W : Type 0} (contents : W → Option (List ℕ)) (output₀
   pub rest : coming_text (coming start) ≡ text ++ coming_text (coming planner)
   pub room : length piece ≡ 262144
 
-abbrev pub invariant-loop-planner : goal.invariant-loop-planner
-invariant-loop-planner g l = Printing g.W.Write.contents l.initial.output l.output l.initial.planner l.planner l.piece
+abbrev pub invariant-loop-chunk : goal.invariant-loop-chunk
+invariant-loop-chunk g l = Printing g.W.Write.contents l.initial.output l.output l.initial.planner l.planner l.piece
 
-abbrev pub decreases-loop-planner : goal.decreases-loop-planner
-decreases-loop-planner g l = length (coming l.planner).entries
+abbrev pub decreases-loop-chunk : goal.decreases-loop-chunk
+decreases-loop-chunk g l = length (coming l.planner).entries

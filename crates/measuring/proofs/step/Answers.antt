@@ -1,23 +1,18 @@
 -- What the step gives picks the law.
-use Rattle.std.proofs.Common.{refl}
-use Rattle.planner.specs.declared.types.Given.TheVariants as given
-use Rattle.measuring.proofs.Stepped.{entry_small, entry_measured, entry_passed, entry_over, end_over}
+use Rattle.std.proofs.lemmas.Result.{err_from_is_err_and}
+use Rattle.measuring.proofs.Stepped.{entry_small, entry_measured, entry_over, none_over}
 use Rattle.measuring.proofs.step.Goals as goal
 
+pub returns-in_default : goal.returns-in_default
+returns-in_default c = none_over _ _ c.step-s.ensures c.args.r c.args.place c.in_default.not-Ok
+
 pub taken-requires : goal.taken-requires
-taken-requires c = (c.requires.0, (c.requires.1.0, entry_small _ _ c.step-s.ensures _ c.in-Entry.is c.requires.1.1))
+taken-requires c = (c.requires.0, entry_small _ _ c.step-s.ensures _ c.in-Ok.is c.requires.1)
 
-pub returns-in-Is : goal.returns-in-Is
-returns-in-Is c = entry_measured c.args.p c.step-s.result c.step-s.ensures c.args.r c.args.place _ c.in-Entry.is c.requires.1.1 _ c.taken.ensures _ _ c.in-Is.is
+pub returns-in_err-measured : goal.returns-in_err-measured
+returns-in_err-measured c =
+    let p = err_from_is_err_and c.from_residual.result c.from_residual.ensures.1 in
+    rw p.1 (entry_over _ _ c.step-s.ensures _ _ _ c.in-Ok.is _ c.in_err-measured.ensures)
 
-pub returns-in-Passed : goal.returns-in-Passed
-returns-in-Passed c = entry_passed c.args.p c.step-s.result c.step-s.ensures c.args.r c.args.place _ c.in-Entry.is c.requires.1.1 _ c.taken.ensures c.in-Passed.is
-
-pub returns-in-Over : goal.returns-in-Over
-returns-in-Over c = entry_over c.args.p c.step-s.result c.step-s.ensures c.args.r c.args.place _ c.in-Entry.is _ c.taken.ensures c.in-Over.is
-
-pub returns-in-Refused : goal.returns-in-Refused
-returns-in-Refused c = end_over c.args.p c.step-s.result c.step-s.ensures c.args.r c.args.place (given.Refused _ _) c.in-Refused.is _ refl
-
-pub returns-in-End : goal.returns-in-End
-returns-in-End c = end_over c.args.p c.step-s.result c.step-s.ensures c.args.r c.args.place (given.End _) c.in-End.is _ refl
+pub returns : goal.returns
+returns c = entry_measured _ _ c.step-s.ensures _ _ _ c.in-Ok.is c.requires.1 _ c.in_ok-measured.ensures

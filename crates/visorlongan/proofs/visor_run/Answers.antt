@@ -1,32 +1,20 @@
 -- The parts keep their promises, one after another; three lengths are tested first.
-use Rattle.std.proofs.Common.{◌≡◌, ◌∙◌, subst, List, ℕ}
-use Rattle.plan.specs.Whole.{plan_of}
-use Rattle.request.specs.Host.{with_bytes, host_request}
+use Rattle.std.proofs.Common.{◌∙◌}
 use Rattle.visorlongan.proofs.Left.{odd_request, odd_bank, odd_end, ran}
 use Rattle.visorlongan.proofs.visor_run.Goals as goal
 
 pub returns-in_default : goal.returns-in_default
-returns-in_default c = let a = c.args in odd_request a.object.now a.request.now a.bank.now a.plan.now a.end.now c.in_default.ensures.1
+returns-in_default c = let a = c.args in odd_request a.object.now a.request.now a.bank.now a.plan.now a.end.now c.in_default.ensures
 
 pub returns-then-bank-ne-BANK : goal.returns-then-bank-ne-BANK
-returns-then-bank-ne-BANK c = let a = c.args in odd_bank a.object.now a.request.now a.bank.now a.plan.now a.end.now c.in-Ok.ensures.1.long c.if-bank-ne-BANK.true
+returns-then-bank-ne-BANK c = let a = c.args in odd_bank a.object.now a.request.now a.bank.now a.plan.now a.end.now c.in-Ok.ensures.0 c.if-bank-ne-BANK.true
 
 pub returns-then-end-ne-END : goal.returns-then-end-ne-END
-returns-then-end-ne-END c = let a = c.args in odd_end a.object.now a.request.now a.bank.now a.plan.now a.end.now c.in-Ok.ensures.1.long c.if-bank-ne-BANK.false c.if-end-ne-END.true
+returns-then-end-ne-END c = let a = c.args in odd_end a.object.now a.request.now a.bank.now a.plan.now a.end.now c.in-Ok.ensures.0 c.if-bank-ne-BANK.false c.if-end-ne-END.true
 
 pub returns : goal.returns
 returns c =
     let a = c.args in
-    let w = c.in-Ok.ensures.1 in
-    ran a.object.now a.request.now a.bank.now a.plan.now a.end.now
-    c.from_words-q.result
-    (subst (λ (ws : List ℕ). (bytes : List ℕ) → plan_of (with_bytes bytes c.from_words-q.result) ≡ plan_of (host_request bytes ws)) w.same c.from_words-q.ensures.plan)
-    _
-    _
-    _
-    c.run-ended.result
-    w.long
-    c.if-bank-ne-BANK.false
-    c.if-end-ne-END.false
-    c.run-ended.ensures
+    let q = c.in-Ok.ensures in
+    ran a.object.now a.request.now a.bank.now a.plan.now a.end.now c.in-Ok.q q.1.plan _ _ _ c.run-ended.result q.0 c.if-bank-ne-BANK.false c.if-end-ne-END.false c.run-ended.ensures
     (c.copy_from_slice.ensures.after ∙ c.end_numbers.ensures)

@@ -1,5 +1,5 @@
 -- The Rust's words are the row's conditions, joined from the left.
-use Rattle.std.proofs.Common.{arith, ◌<◌, ◌^◌}
+use Rattle.std.proofs.Common.{arith}
 use Rattle.std.proofs.Math.Bool.{or_assoc, or-false}
 use Rattle.checks.specs.Check.{copy_faults}
 use Rattle.checks.specs.Ties.{none, product}

@@ -5,4 +5,4 @@ use Rattle.checks.proofs.check.object_bad.Goals as goal
 
 pub returns : goal.returns
 unfolding object_faults
-returns c = rw (c.quarters.ensures, c.quarters-2.ensures, c.quarters-3.ensures, c.quarters-4.ensures) (simp (or_assoc, or-false))
+returns c = rw (c.quarters.ensures, c.quarters-2.ensures, c.quarters-3.ensures, c.quarters-4.ensures, c.load_bad.ensures) (simp (or_assoc, or-false))

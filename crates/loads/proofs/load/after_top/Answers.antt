@@ -3,5 +3,5 @@ use Rattle.std.proofs.Common.{eq-eqb}
 use Rattle.loads.specs.Enter.{chose_past}
 use Rattle.loads.proofs.load.after_top.Goals as goal
 
-pub returns-then-z-eq0 : goal.returns-then-z-eq0
-returns-then-z-eq0 c = chose_past c.args.p c.after_split.result (eq-eqb _ _ c.if-z-eq0.true) c.after_split.ensures
+pub returns-then-p-eq0 : goal.returns-then-p-eq0
+returns-then-p-eq0 c = chose_past c.args.p c.after_split.result (eq-eqb _ _ c.if-p-eq0.true) c.after_split.ensures

@@ -3,7 +3,7 @@ use Rattle.std.proofs.Common.{arith, refl, lit≤}
 use Rattle.loads.specs.Coming.{piece_out}
 use Rattle.loads.specs.Comes.{wider, read_in, difference_in}
 use Rattle.loads.specs.Enter.{reaches_as}
-use Rattle.loads.proofs.Read.{value, one_more, few, line_is, line_in}
+use Rattle.loads.proofs.Read.{value, one_more, few, rows_is, line_is, line_in}
 use Rattle.loads.proofs.load.split_b.Goals as goal
 
 pub enter-requires-clause-within : goal.enter-requires-clause-within
@@ -20,4 +20,4 @@ returns c =
     let r = c.requires.split_is in
     let from = value c.sum-destination.type_inv (rw (read_in 61 _ (lit≤ tt) r.from', read_in 20 _ (lit≤ tt) r.width') at c.sum-destination.ensures) in
     let width = value c.difference-width.type_inv (rw (line_is c.args.p.scaled c.requires.sound_pass.scaled, read_in 20 _ (lit≤ tt) r.width') at c.difference-width.ensures) in
-    reaches_as refl (omega arith) (rw (one_more c.args.s.odd r.odd', from, width, r.odd, r.from, r.width) at c.enter.ensures)
+    reaches_as refl (omega arith) (rw (rows_is c.args.p c.requires.sound_pass, one_more c.args.s.odd r.odd', from, width, r.odd, r.from, r.width) at c.enter.ensures)

@@ -5,29 +5,27 @@ use Rattle.loads.specs.Coming.{loadable_of}
 use Rattle.loads.specs.Comes.{wider}
 use Rattle.loads.specs.Kept.{remain_in}
 use Rattle.loads.specs.Enter.{split_1, split_2, split_3, split_4, ended_as, reaches_as, none_ends}
-use Rattle.loads.proofs.Read.{value, remain_is, loadable_in}
+use Rattle.loads.proofs.Read.{value, left_asks, left_is, loadable_in}
 use Rattle.loads.proofs.load.split_row.Goals as goal
 use Rattle.loads.proofs.load.split_row.Goals.{After-times}
 
 -- the bytes of the rows before the image's last
 bytes_is : (c : After-times) → to_z w64 (of_z w64 c.times.result) ≡ loadable_of c.args.p.scaled c.args.p.walk.source *ℤ pos c.args.p.scaled.stride
 bytes_is c =
-    let left = value c.less-loadable.type_inv (rw (remain_is c.args.p c.requires.sound_pass) at c.less-loadable.ensures) in
+    let left = left_is c.args.p c.requires.sound_pass c.less-loadable.type_inv c.less-loadable.ensures in
     value c.times.type_inv (rw left at c.times.ensures)
 
 pub split-s-requires-clause-within : goal.split-s-requires-clause-within
 split-s-requires-clause-within c = remain_in c.args.p.walk c.requires.sound_pass.walk
 
 pub less-loadable-requires : goal.less-loadable-requires
-less-loadable-requires c =
-    let h = c.requires.sound_pass in
-    (rw (remain_is c.args.p h) (wider 43 61 _ (lit≤ tt) (remain_in c.args.p.walk h.walk)), omega (arith, h.scaled.split))
+less-loadable-requires c = left_asks c.args.p c.requires.sound_pass
 
 pub times-requires : goal.times-requires
 times-requires c =
     let p = c.args.p in
     let h = c.requires.sound_pass in
-    let left = value c.less-loadable.type_inv (rw (remain_is p h) at c.less-loadable.ensures) in
+    let left = left_is p h c.less-loadable.type_inv c.less-loadable.ensures in
     (rw left (wider 44 45 _ (lit≤ tt) (loadable_in p.scaled h.scaled p.walk.source (remain_in p.walk h.walk))), h.scaled.stride')
 
 pub returns-in_err-p1 : goal.returns-in_err-p1

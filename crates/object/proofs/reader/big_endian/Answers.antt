@@ -1,6 +1,6 @@
 -- A read of fewer than eight bytes leaves room for one byte more, and one byte more is one step of the read.
-use Rattle.std.proofs.Common.{◌≡◌, ◌+◌, ◌-◌, ◌<◌, ◌≤◌, ◌∙◌, length, List, [], ℕ, arith, get_or}
-use Rattle.std.proofs.lemmas.List.{get_or-drop, get_or-take, length-drop, length-take}
+use Rattle.std.proofs.Common.{◌≡◌, ◌+◌, ◌-◌, ◌<◌, ◌∙◌, length, List, ℕ, arith, get_or}
+use Rattle.std.proofs.lemmas.List.{get_or-drop, get_or-take, length-take}
 use Rattle.std.proofs.Math.ListN.{take, drop}
 use Rattle.object.specs.Reads.{read_none, read_more, room}
 use Rattle.object.proofs.reader.big_endian.Goals as goal

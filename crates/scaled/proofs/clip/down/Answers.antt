@@ -1,18 +1,8 @@
--- Each call's result is the definition's number; the scissor's edges are read back.
-use Rattle.signed.specs.Diff.{zarith}
+-- Each call's result is the definition's number.
 use Rattle.scaled.specs.Range.{reads_edge}
 use Rattle.scaled.proofs.clip.down.Goals as goal
-
-pub cut_axis-requires-clause-below : goal.cut_axis-requires-clause-below
-cut_axis-requires-clause-below c =
-    let p = c.requires.passed.edges in
-    let l = rw (reads_edge p.uly) at c.edge.ensures in
-    let h = rw (reads_edge p.lry) at c.edge-2.ensures in
-    rw (l, h) (record { low = omega zarith; high = omega zarith }, record { low = omega zarith; high = omega zarith })
 
 pub returns : goal.returns
 returns c =
     let p = c.requires.passed.edges in
-    let l = rw (reads_edge p.uly) at c.edge.ensures in
-    let h = rw (reads_edge p.lry) at c.edge-2.ensures in
-    rw (l, h, c.height_of-height.ensures.value) at c.cut_axis.ensures
+    rw (reads_edge p.uly, reads_edge p.lry, c.height_of-height.ensures.value) at c.cut_axis.ensures

@@ -11,7 +11,7 @@ pub returns-clause-value : goal.returns-clause-value
 unfolding removed
 returns-clause-value c =
     let f : SFits w64 c.args.frame.0 = omega zarith in
-    let m : SFits w64 c.max_of-max.result.0 = omega zarith in
-    let d : SFits w64 (c.args.frame.0 -ℤ c.max_of-max.result.0) = simp zdiff (omega zarith) in
-    let e = rw (rd f, rd m, rd d, c.max_of-max.ensures.value) at c.extent.ensures in
+    let m : SFits w64 c.max_of.result.0 = omega zarith in
+    let d : SFits w64 (c.args.frame.0 -ℤ c.max_of.result.0) = simp zdiff (omega zarith) in
+    let e = rw (rd f, rd m, rd d, c.max_of.ensures.value) at c.extent.ensures in
     rw (e, counted c.requires.0.low)

@@ -11,7 +11,7 @@ use Rattle.scaled.specs.Range.{StartIn}
 use Rattle.scaled.specs.Strip.{origin_of}
 use Rattle.scaled.specs.StartLaw.{h_least, carry_le, y_le, wrapped_le, start_in}
 use Rattle.scaled.proofs.start.start_of.Goals as goal
-use Rattle.scaled.proofs.start.start_of.Goals.{After-of_rows-down, After-sum-y, After-of_thirty_seconds-back}
+use Rattle.scaled.proofs.start.start_of.Goals.{After-of_rows-down, After-sum-y, After-of_thirty_seconds-back, then-c, else-c}
 
 abbrev w : ObjBg → ℕ
 w bg = in_image (quarters bg.image_w)
@@ -28,8 +28,11 @@ y bg c = thirty_seconds bg.image_y + sampled_by (quarters c.top) bg.scale_h.0 + 
 abbrev down : ObjBg → Clip → ThirtySeconds
 down bg c = in_thirty_seconds (pos (of_rows (x bg c / w bg)))
 
+cut_is : (c : After-of_rows-down) → c.if-c.cut ≡ cond c.args.c.flip c.args.c.right c.args.c.left
+cut_is c = elim c.if-c.branch [ then-c b ↦ rw (b.if-c.true, b.cut-is) | else-c b ↦ rw (b.if-c.false, b.cut-is) ]
+
 x_is : (c : After-of_rows-down) → c.position_after-x.result ≡ in_thirty_seconds (pos (x c.args.bg c.args.c))
-x_is c = rw c.chosen.ensures at c.position_after-x.ensures.value
+x_is c = rw (cut_is c) at c.position_after-x.ensures.value
 
 carry_is : (c : After-of_rows-down) → c.wraps-carry.result ≡ x c.args.bg c.args.c / w c.args.bg
 carry_is c = rw (x_is c, c.in_image-source_w.ensures) at c.wraps-carry.ensures
@@ -56,17 +59,17 @@ sum-y-requires c =
     rw (c.position_after.ensures.value, down_is (goal.at.sum-y-requires c).After-of_rows-down)
     (record { low = omega zarith; high = omega zarith }, record { low = omega zarith; high = omega zarith })
 
-pub rest-image_y-requires : goal.rest-image_y-requires
-rest-image_y-requires c =
-    let g = goal.at.rest-image_y-requires c in
+pub rest-requires-2 : goal.rest-requires-2
+rest-requires-2 c =
+    let g = goal.at.rest-requires-2 c in
     rw (y_is g.After-sum-y (down_is g.After-of_rows-down), c.in_image-source_h.ensures)
     (omega (arith, y_le c.args.bg c.args.c c.requires.usable c.requires.filled), omega (arith, h_least c.args.bg c.args.c c.requires.usable c.requires.filled))
 
-pub origin_of-origin-requires : goal.origin_of-origin-requires
-origin_of-origin-requires c =
+pub origin_of-requires : goal.origin_of-requires
+origin_of-requires c =
     let l = carry_le c.args.bg c.args.c c.requires.usable c.requires.filled in
     let m = wrapped_le c.args.bg c.args.c c.requires.usable c.requires.filled in
-    let g = goal.at.origin_of-origin-requires c in
+    let g = goal.at.origin_of-requires c in
     let d = down_is g.After-of_rows-down in
     rw (d, back_is g.After-of_thirty_seconds-back (y_is g.After-sum-y d))
     (c.requires.usable.range.image_y_orig, (record { low = omega zarith; high = omega zarith }, record { low = omega zarith; high = omega zarith }))
@@ -79,8 +82,8 @@ returns c =
     let e = y_is g.After-sum-y d in
     let k = carry_is g.After-of_rows-down in
     let n = wrap_is g.After-of_thirty_seconds-back e in
-    let ix = rw (x_is g.After-of_rows-down, c.in_image-source_w.ensures) at c.rest-image_x.ensures in
-    let iy = rw (e, c.in_image-source_h.ensures) at c.rest-image_y.ensures in
-    let o = rw (d, back_is g.After-of_thirty_seconds-back e) at c.origin_of-origin.ensures in
-    let i : record { image_x = c.rest-image_x.result; image_y = c.rest-image_y.result; origin = c.origin_of-origin.result; carry = c.wraps-carry.result; wrap = c.wraps-wrap.result } ≡ start_of c.args.bg c.args.c = λ j. record { image_x = ix j; image_y = iy j; origin = o j; carry = k j; wrap = n j } in
+    let ix = rw (x_is g.After-of_rows-down, c.in_image-source_w.ensures) at c.rest.ensures in
+    let iy = rw (e, c.in_image-source_h.ensures) at c.rest-2.ensures in
+    let o = rw (d, back_is g.After-of_thirty_seconds-back e) at c.origin_of.ensures in
+    let i : record { image_x = c.rest.result; image_y = c.rest-2.result; origin = c.origin_of.result; carry = c.wraps-carry.result; wrap = c.wraps-wrap.result } ≡ start_of c.args.bg c.args.c = λ j. record { image_x = ix j; image_y = iy j; origin = o j; carry = k j; wrap = n j } in
     record { is = i; inside = subst (StartIn c.args.bg) (sym i) (start_in c.args.bg c.args.c c.requires.usable c.requires.filled) }

@@ -10,17 +10,17 @@ use Rattle.plan.specs.Sound.{SoundScaled}
 use Rattle.scaled.specs.Strip.{shift_of, max_slice, line_of, split_of, s_of}
 use Rattle.scaled.specs.StripLaw.{scaled_sound}
 use Rattle.scaled.proofs.strip.scaled_of.Goals as goal
-use Rattle.scaled.proofs.strip.scaled_of.Goals.{After-low8-palette}
+use Rattle.scaled.proofs.strip.scaled_of.Goals.{After-into-3}
 
-abbrev scaled : After-low8-palette → Scaled
+abbrev scaled : After-into-3 → Scaled
 scaled c =
     let a = c.args in
     let r = c.rows_of-rows.result in
     let k = c.columns_of-columns.result in
     record {
-      fmt = a.bg.image_fmt;
-      siz = a.bg.image_siz;
-      palette = c.low8-palette.result;
+      fmt = c.into.result;
+      siz = c.into-2.result;
+      palette = c.into-3.result;
       address = a.address;
       x = a.c.x;
       x_end = in_quarters (to_z w64 (of_z w64 (to_z w64 (of_z w64 a.c.x.0) +ℤ to_z w64 (of_z w64 a.c.width.0))));
@@ -37,7 +37,7 @@ scaled c =
       s = k.s;
     }
 
-end_is : (c : After-low8-palette) → to_z w64 (of_z w64 (to_z w64 (of_z w64 c.args.c.x.0) +ℤ to_z w64 (of_z w64 c.args.c.width.0))) ≡ c.args.c.x.0 +ℤ c.args.c.width.0
+end_is : (c : After-into-3) → to_z w64 (of_z w64 (to_z w64 (of_z w64 c.args.c.x.0) +ℤ to_z w64 (of_z w64 c.args.c.width.0))) ≡ c.args.c.x.0 +ℤ c.args.c.width.0
 end_is c =
     let f = c.requires.filled.x in
     let g = c.requires.filled.width' in
@@ -46,7 +46,7 @@ end_is c =
     let s : SFits w64 (c.args.c.x.0 +ℤ c.args.c.width.0) = simp zdiff (omega zarith) in
     rw (rd x, rd w, rd s)
 
-is : (c : After-low8-palette) → scaled c ≡ scaled_of c.args.bg c.args.mode c.args.address c.args.c c.args.i
+is : (c : After-into-3) → scaled c ≡ scaled_of c.args.bg c.args.mode c.args.address c.args.c c.args.i
 unfolding scaled_of shift_of max_slice line_of split_of s_of
 is c =
     let a = c.args in
@@ -54,9 +54,9 @@ is c =
     let r = rw l at c.rows_of-rows.ensures in
     let k = rw l at c.columns_of-columns.ensures in
     λ j. record {
-      fmt = a.bg.image_fmt;
-      siz = a.bg.image_siz;
-      palette = c.low8-palette.ensures j;
+      fmt = c.into.ensures j;
+      siz = c.into-2.ensures j;
+      palette = (c.into-3.ensures ∙ c.low8.ensures) j;
       address = a.address;
       x = a.c.x;
       x_end = in_quarters (end_is c j);
@@ -75,5 +75,5 @@ is c =
 
 pub returns : goal.returns
 returns c =
-    let i = is (goal.at.returns c).After-low8-palette in
+    let i = is (goal.at.returns c).After-into-3 in
     record { is = i; sound = λ e. subst SoundScaled (sym i) (scaled_sound c.args.bg c.args.mode c.args.address c.args.c c.args.i c.requires.usable c.requires.filled c.requires.start_in (sym (ap slices_bad i) ∙ e)) }

@@ -1,19 +1,9 @@
--- What the checks answer picks the law.
-use Rattle.std.proofs.Common.{Ok, [], ap, sym, ◌∙◌}
-use Rattle.starts.specs.Start.{fresh_refused, fresh_copy, fresh_scaled}
+-- A course with the whole plan to come makes a planner that is fresh.
+use Rattle.std.proofs.Common.{◌≡◌, rules}
+use Rattle.starts.specs.Start.{course_or, fresh_from}
 use Rattle.starts.proofs.start.fresh.Goals as goal
 
-pub started-requires : goal.started-requires
-started-requires c = let s = c.copy_course.ensures [] 0 0 in (s.sound, s.left)
-
-pub started-requires-in-Ok-Scaled : goal.started-requires-in-Ok-Scaled
-started-requires-in-Ok-Scaled c = let s = c.scaled_course.ensures [] 0 in (s.sound, s.left)
-
-pub returns-in-Ok-Copy : goal.returns-in-Ok-Copy
-returns-in-Ok-Copy c = rw c.started.ensures (fresh_copy _ _ _ _ _ _ _ (sym c.checked.ensures.is ∙ c.in-Ok-Copy.is ∙ ap Ok c.in-Ok-Copy.field-0-is) c.copy_course.ensures)
-
-pub returns-in-Ok-Scaled : goal.returns-in-Ok-Scaled
-returns-in-Ok-Scaled c = rw c.started-in-Ok-Scaled.ensures (fresh_scaled _ _ _ _ _ _ _ (sym c.checked.ensures.is ∙ c.in-Ok-Scaled.is ∙ ap Ok c.in-Ok-Scaled.field-0-is) c.scaled_course.ensures)
-
-pub returns-in-Err : goal.returns-in-Err
-returns-in-Err c = rw c.started-in-Err.ensures (fresh_refused _ _ _ _ _ _ (sym c.checked.ensures.is ∙ c.in-Err.is))
+pub returns : goal.returns
+returns c =
+    let e : c.unwrap_or_else.result ≡ course_or c.first_course.result = search rules in
+    rw (c.started.ensures, e) (fresh_from _ _ _ _ _ _ c.first_course.ensures)

@@ -11,7 +11,8 @@ returns c =
     let uly : SFits w32 c.args.scissor.uly = omega zarith in
     let lrx : SFits w32 c.args.scissor.lrx = omega zarith in
     let lry : SFits w32 c.args.scissor.lry = omega zarith in
-    copy_is c.args.bg c.args.scissor c.args.address c.requires
+    rw (c.from.ensures, c.from-2.ensures, c.from-3.ensures)
+    (copy_is c.args.bg c.args.scissor c.args.address c.requires
     (rw (to_z-of_z w32 _ ulx, to_z-of_z w32 _ lrx) at c.axis_of-across.ensures)
     (rw (to_z-of_z w32 _ uly, to_z-of_z w32 _ lry) at c.axis_of-down.ensures)
     c.texels-image_width.ensures
@@ -23,4 +24,4 @@ returns c =
     c.strip_lines-rows.ensures.1
     c.low8-palette.ensures
     c.copy_capacity-capacity.ensures.is
-    c.texels_per_word-texels_per_word.ensures
+    c.texels_per_word-texels_per_word.ensures)

@@ -28,8 +28,8 @@ source_low p h = omega (arith, h.scaled.source_rows')
 pub overflow_sub-rows : goal.overflow_sub-rows
 overflow_sub-rows c = rw (rdn c.args.p.scaled.source_rows (source_low c.args.p c.requires), remain_is c.args.p c.requires) (rows_fit c.args.p c.requires)
 
-pub overflow_add-y : goal.overflow_add-y
-overflow_add-y c = record { fits = omega (arith, end_low c.args.p c.requires) }
+pub overflow_add-w : goal.overflow_add-w
+overflow_add-w c = record { fits = omega (arith, end_low c.args.p c.requires) }
 
 pub line_at-requires-2 : goal.line_at-requires-2
 line_at-requires-2 c = omega (arith, end_low c.args.p c.requires)

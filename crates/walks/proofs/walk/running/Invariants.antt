@@ -4,8 +4,8 @@ use Rattle.signed.specs.Diff.{up}
 use Rattle.walks.specs.Going.{Gone}
 use Rattle.walks.proofs.walk.running.Given as goal
 
-abbrev pub invariant-loop-source : goal.invariant-loop-source
-invariant-loop-source l = (Gone l.p.scaled l.fn.walk l.w) × (l.w.slice_rows ≡ pos l.p.scaled.image_rows)
+abbrev pub invariant-loop-p : goal.invariant-loop-p
+invariant-loop-p l = (Gone l.p.scaled l.fn.walk l.w) × (l.w.slice_rows ≡ pos l.p.scaled.image_rows)
 
-abbrev pub decreases-loop-source : goal.decreases-loop-source
-decreases-loop-source l = 1024 - up l.w.count
+abbrev pub decreases-loop-p : goal.decreases-loop-p
+decreases-loop-p l = 1024 - up l.w.count

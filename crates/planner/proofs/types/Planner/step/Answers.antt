@@ -1,5 +1,5 @@
 -- The course picks the step, and each step's promise is of the planner with that course.
-use Rattle.std.proofs.Common.{refl, sym, subst}
+use Rattle.std.proofs.Common.{None, refl, sym, subst}
 use Rattle.planner.specs.declared.types.Course.{Course}
 use Rattle.planner.specs.declared.types.Course.TheVariants as course
 use Rattle.planner.specs.Planner.{Planner, planner_at}
@@ -24,4 +24,4 @@ returns-in-Over c =
     let e = c.in-Over.is in
     subst (λ (p : Planner). StepGives p c.stop.result) c.self.view_is
     (subst (λ (w : Course). StepGives (planner_at w n) c.stop.result) (sym e)
-    (rw c.stop.ensures (step_stopped (course.Over _) n _ refl (record { course = tt; counts = h.counts; few = rw e at h.few }))))
+    (rw c.stop.ensures (step_stopped (course.Over _) n _ None refl tt (record { course = tt; counts = h.counts; few = rw e at h.few }))))

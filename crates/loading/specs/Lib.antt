@@ -1,0 +1,2 @@
+-- The load into tile 7.
+pub mod Load

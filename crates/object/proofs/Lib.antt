@@ -1,0 +1,2 @@
+-- That a scissor's edge reads back as the number that it is.
+pub mod Edges

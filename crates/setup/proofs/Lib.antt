@@ -1,0 +1,2 @@
+-- What the set-up gives, and the plan of a scaled background by it.
+pub mod Laws

@@ -1,0 +1,2 @@
+-- The parts of a scaled plan's set-up.
+pub mod Parts

@@ -1,0 +1,2 @@
+-- Laws that stand beside the planner of a request.
+pub mod Ways
