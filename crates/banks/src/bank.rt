@@ -1,27 +1,28 @@
 // A bank out of words and as words: eight tiles of seventeen. By name and not by From, since the bank's type and the definitions of its words lie in lower crates.
-ghost use Rattle.std.specs.Prelude.{◌≡◌, ◌%◌, ◌*◌, ◌^◌, ◌≤◌, ◌<◌, length, drop};
+ghost use Rattle.std.specs.Prelude.{◌≡◌, ◌%◌, ◌^◌};
 ghost use Rattle.plan.specs.Check.{tile_numbers};
 ghost use Rattle.giving.specs.Host.{bank_from, bank_numbers, tile_from};
 
+use giving::TILE;
 use tile::{Bank, Tile};
 
-// A word cut to its field: one function for each width, as a cast names its type.
+// A word cut to its field, by a remainder, as a cast must not lose bits: one function for each width, as a cast names its type.
 
 fn half(word: u64) -> u16
     ensures { result ≡ word % 2 ^ 16 }
 {
-    (word % 0x1_0000) as u16
+    (word % 65536) as u16
 }
 
 fn byte(word: u64) -> u8
     ensures { result ≡ word % 2 ^ 8 }
 {
-    (word % 0x100) as u8
+    (word % 256) as u8
 }
 
 // A tile's words as the tile.
 #[tactic(auto, unfolding(giving::specs::Host::tile_from))]
-fn tile_from(words: [u64; 17]) -> Tile
+fn tile_from(words: [u64; TILE]) -> Tile
     ensures { result ≡ tile_from words }
 {
     Tile {
@@ -48,14 +49,14 @@ fn tile_from(words: [u64; 17]) -> Tile
 pub fn bank_from(words: &[u64; 136]) -> Bank
     ensures { result ≡ bank_from words.now }
 {
-    let tiles = <[[u64; 17]; 8]>::try_from(words.as_chunks::<17>().0).unwrap();
+    let tiles = <[[u64; TILE]; 8]>::try_from(words.as_chunks::<TILE>().0).unwrap();
     Bank {
         tiles: tiles.map(tile_from),
     }
 }
 
 #[tactic(auto, unfolding(plan::specs::Check::tile_numbers))]
-fn tile_words(t: Tile) -> [u64; 17]
+fn tile_words(t: Tile) -> [u64; TILE]
     ensures { result ≡ tile_numbers t }
 {
     [

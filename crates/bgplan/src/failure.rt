@@ -1,4 +1,4 @@
-// Why a plan's text, or the rest of it, does not go out.
+// Why a plan's text, or the rest of it, does not go out. replay has an enum of its own: each names its program's streams.
 use std::{fmt, io};
 
 #[derive(Clone, Copy)]

@@ -12,6 +12,7 @@ mod failure;
 
 use failure::Failure;
 use planner::Planner;
+use request::CASE_BYTES;
 use std::io;
 use std::io::{Read, Write};
 use std::process::ExitCode;
@@ -52,7 +53,7 @@ fn print<W: Write>(output: &mut W, start: Planner) -> io::Result<()>
 fn answer<R: Read, W: Write>(input: &mut R, output: &mut W) -> Result<(), Failure>
     ensures { AnswerIs (R.remaining input.old) (W.contents output.old) (W.contents output.new) result }
 {
-    let mut bytes = [0u8; 61];
+    let mut bytes = [0u8; CASE_BYTES];
     let n = read(input, &mut bytes).map_err(Failure::Input)?;
     print(output, show::case_planner(&bytes[..n])).map_err(Failure::Output)
 }

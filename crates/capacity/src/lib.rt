@@ -22,7 +22,7 @@ fn entry(table: &[u64; 20], fmt: u8, siz: u8) -> u64
     requires { (fmt ≤ 4) × (siz ≤ 3) }
     ensures { result ≡ slice_index table.now (fmt * 4 + siz) }
 {
-    table[fmt as usize * 4 + siz as usize]
+    table[usize::from(fmt) * 4 + usize::from(siz)]
 }
 
 pub fn copy_capacity(fmt: u8, siz: u8) -> u64

@@ -1,6 +1,6 @@
 -- The laws of the checks, for callers: what is known of a decoded object, and of a request that passed.
 -- Assumes nothing.
-use Rattle.std.specs.Prelude.{◌≡◌, refl, Ok, Err, Some, None, Bool, true, false, cond, List, [], ◌∷◌, ℕ, ◌+◌, ◌≤◌, ◌<◌, max, ℤ, pos}
+use Rattle.std.specs.Prelude.{◌≡◌, refl, Result, Ok, Err, Some, None, Bool, true, false, cond, List, [], ◌∷◌, ℕ, ◌+◌, ◌≤◌, ◌<◌, max, ltb, length, ℤ, pos}
 use Rattle.std.proofs.Common.{sym, subst, arith, ltb-false, to_z}
 use Rattle.std.specs.Int.Signed.{lt_z}
 use Rattle.std.specs.Int.{w16, w32}
@@ -12,9 +12,9 @@ use Rattle.object.specs.declared.types.Scissor.{Scissor}
 use Rattle.object.specs.declared.types.Verdict.{Verdict}
 use Rattle.object.specs.declared.types.Verdict.TheVariants as verdict
 use Rattle.object.specs.declared.types.Background.TheVariants as background
-use Rattle.object.specs.Layout.{layout, value_of, decode, decoded_by, decoded_of, Bytes}
+use Rattle.object.specs.Layout.{size_of, layout, value_of, decode, decoded_by, decoded_of, Bytes}
 use Rattle.object.specs.Reads.{read_below}
-use Rattle.checks.specs.Check.{Checked, any, edge_bad, scissor_bad, object_faults, copy_faults, opcode_bad, copies, short, refused_by, object_of, checked_of}
+use Rattle.checks.specs.Check.{Checked, any, edge_bad, scissor_bad, object_faults, copy_faults, opcode_bad, copies, kind_of, short, refused_by, object_of, checked_of}
 use Rattle.measures.specs.Range.{Below, Within}
 use Rattle.checks.specs.Known.{InRange, EdgesIn, Passed, PassedCopy, PassedScaled, KnownOf, CheckedIs}
 
@@ -177,18 +177,21 @@ cut : (t : Bool) (x : ObjBg) → decoded_by t x ≡ None → t ≡ true
 cut true x e = refl
 cut false x e = let z : ◌≡◌ {A = ℕ} 0 1 = cc in absurd (omega arith)
 
-pub opcode_refused : (p : ℕ) (bs : List ℕ) (opcode : ℕ) (s : Scissor) → opcode_bad opcode ≡ true → Err verdict.Opcode ≡ checked_of p bs opcode s
-unfolding checked_of
-opcode_refused p bs opcode s o = rw o
+asked : (t u copy : Bool) → ◌≡◌ {A = Result Bool Verdict} (cond t (Err verdict.Opcode) (Ok u)) (Ok copy) → (t ≡ false) × (u ≡ copy)
+asked true u copy e = let z : ◌≡◌ {A = ℕ} 0 1 = cc in absurd (omega arith)
+asked false u copy e = (refl, cc)
 
-pub short_refused : (p : ℕ) (bs : List ℕ) (opcode : ℕ) (s : Scissor) → opcode_bad opcode ≡ false → decoded_of p (copies opcode) bs ≡ None → Err verdict.Short ≡ checked_of p bs opcode s
-unfolding checked_of decoded_of
-short_refused p bs opcode s o d = rw (o, cut (short p opcode bs) (decode p (copies opcode) bs) d)
+module _ (p : ℕ) (bs : List ℕ) (opcode : ℕ) (s : Scissor) (copy : Bool) (k : kind_of opcode ≡ Ok copy) where
+  pub short_refused : decoded_of p copy bs ≡ None → Err verdict.Short ≡ checked_of p bs opcode s
+  unfolding checked_of decoded_of
+  short_refused d = let o = asked (opcode_bad opcode) (copies opcode) copy k in rw (o.0, o.1, cut (ltb (length bs) (size_of p copy)) (decode p copy bs) d)
 
-pub object_checked : (p : ℕ) (bs : List ℕ) (opcode : ℕ) (s : Scissor) (bg : ObjBg) → opcode_bad opcode ≡ false → decoded_of p (copies opcode) bs ≡ Some bg
-    → refused_by (scissor_bad s) verdict.Scissor (object_of (copies opcode) bg) ≡ checked_of p bs opcode s
-unfolding checked_of decoded_of
-object_checked p bs opcode s bg o d = let h = long (short p opcode bs) (decode p (copies opcode) bs) bg d in rw (o, h.0, h.1)
+  pub object_checked : (bg : ObjBg) → decoded_of p copy bs ≡ Some bg → refused_by (scissor_bad s) verdict.Scissor (object_of copy bg) ≡ checked_of p bs opcode s
+  unfolding checked_of decoded_of
+  object_checked bg d =
+      let o = asked (opcode_bad opcode) (copies opcode) copy k in
+      let h = long (ltb (length bs) (size_of p copy)) (decode p copy bs) bg d in
+      rw (o.0, o.1, h.0, h.1)
 
 pub checked_is : (bs : List ℕ) (opcode : ℕ) (s : Scissor) (r : Checked) → Bytes bs → r ≡ checked_of 4 bs opcode s → CheckedIs bs opcode s r
 checked_is bs opcode s r h e = record { is = e; known = subst (KnownOf s) (sym e) (checked_known 4 bs opcode s h) }

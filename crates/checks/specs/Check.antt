@@ -1,6 +1,6 @@
 -- The verdicts and their numbers, and the checks of a request for verdicts 1 to 5, in the order of D 4.6. D is docs/SPECIFICATION.md, sections 2 and 4.
 -- Assumes nothing.
-use Rattle.std.specs.Prelude.{Bool, true, false, Result, Ok, Err, not, ◌||◌, List, [], ◌∷◌, ℕ, ◌+◌, ◌*◌, ltb, eqb, ℤ, pos, length}
+use Rattle.std.specs.Prelude.{Bool, true, false, Result, Ok, Err, cond, not, ◌||◌, List, [], ◌∷◌, ℕ, ◌+◌, ◌*◌, ltb, eqb, ℤ, pos, length}
 use Rattle.std.specs.Int.Signed.{lt_z}
 use Rattle.object.specs.declared.types.ObjBg.{ObjBg}
 use Rattle.object.specs.declared.types.Scissor.{Scissor}
@@ -37,6 +37,10 @@ opcode_bad opcode = not (eqb opcode 9 || eqb opcode 10)
 -- D "Opcode 9 is scaled (one-cycle), 10 is copy"
 abbrev pub copies : ℕ → Bool
 copies opcode = eqb opcode 10
+
+-- the kind that is asked for, a copy or not, or verdict 1
+abbrev pub kind_of : ℕ → Result Bool Verdict
+kind_of opcode = cond (opcode_bad opcode) (Err verdict.Opcode) (Ok (copies opcode))
 
 -- D verdict 2 "under 40 bytes for copy, 36 for scaled"
 abbrev pub short : ℕ → ℕ → List ℕ → Bool

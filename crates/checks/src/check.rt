@@ -1,6 +1,6 @@
 // The checks of a request, in the verdicts' order.
-ghost use Rattle.std.specs.Prelude.{◌≡◌, ◌<◌, ◌^◌, not, ◌||◌, ltb, eqb};
-ghost use Rattle.checks.specs.Check.{verdict_number, any, opcode_bad, edge_bad, scissor_bad, object_faults, copy_faults, object_of};
+ghost use Rattle.std.specs.Prelude.{◌≡◌, ◌<◌, not, ◌||◌, ltb, eqb};
+ghost use Rattle.checks.specs.Check.{verdict_number, any, kind_of, edge_bad, scissor_bad, object_faults, copy_faults, object_of};
 ghost use Rattle.checks.specs.Known.{CheckedIs};
 
 use measures::{quarters, strip_lines, texels};
@@ -16,11 +16,20 @@ pub fn number(v: Verdict) -> u64
     v as u64
 }
 
-// The opcode stays the caller's byte: a request may hold any, and no function after `checked` asks for it.
-fn opcode_bad(opcode: u8) -> bool
-    ensures { result ≡ opcode_bad opcode }
+// A scaled background's opcode, and a copy's. The opcode stays the caller's byte: a request may hold any, and no function after `kind` asks for it.
+const SCALED: u8 = 9;
+
+pub const COPY: u8 = 10;
+
+// Whether a copy is asked for: the one place that tells the opcodes apart.
+fn kind(opcode: u8) -> Result<bool, Verdict>
+    ensures { result ≡ kind_of opcode }
 {
-    !matches!(opcode, 9 | 10)
+    match opcode {
+        SCALED => Ok(false),
+        COPY => Ok(true),
+        _ => Err(Verdict::Opcode),
+    }
 }
 
 fn edge_bad(edge: i32) -> bool
@@ -54,7 +63,7 @@ fn object_bad(bg: ObjBg) -> bool
         | load_bad(bg.image_load)
 }
 
-// Any bit above the lowest.
+// Any bit above the lowest, tested as the Rust tests it, as the other conditions are; the law `high` of crates/checks/specs/Ties.antt says that this is `1 < flip`.
 fn flip_bad(flip: u16) -> bool
     ensures { result ≡ ltb 1 flip }
 {
@@ -94,10 +103,7 @@ fn object_checked(copy: bool, bg: ObjBg) -> Result<Background, Verdict>
 pub fn checked(object: &[u8], opcode: u8, scissor: Scissor) -> Result<Background, Verdict>
     ensures { CheckedIs object.now opcode scissor result }
 {
-    if opcode_bad(opcode) {
-        return Err(Verdict::Opcode);
-    }
-    let copy = opcode == 10;
+    let copy = kind(opcode)?;
     let bg = decode_obj_bg(object, POINTER, copy).ok_or(Verdict::Short)?;
     if scissor_bad(scissor) {
         return Err(Verdict::Scissor);

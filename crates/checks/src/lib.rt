@@ -3,4 +3,4 @@
 
 mod check;
 
-pub use check::{checked, number};
+pub use check::{COPY, checked, number};

@@ -1,19 +1,20 @@
 // The copy walk, one entry a step: the texture image, then a strip's five entries, strip after strip.
-ghost use Rattle.std.specs.Prelude.{◌≡◌, ◌+◌, ◌-◌, ◌%◌, ◌^◌, ◌≤◌, ◌<◌};
+ghost use Rattle.std.specs.Prelude.{◌≡◌, ◌+◌, ◌≤◌, ◌<◌};
 ghost use Rattle.measures.specs.Measure.{quarters, of_texels};
 ghost use Rattle.measures.specs.Range.{Below};
-ghost use Rattle.plan.specs.Copy.{field, bound};
+ghost use Rattle.plan.specs.Copy.{bound};
 ghost use Rattle.plan.specs.Sound.{SoundCopy};
 ghost use Rattle.copy.specs.Walk.{place_at, start_at, SoundPlace, SoundAt, image_entry, tile_entry, tile0_entry, size_entry, area_of, first_texel, rect_entry, due_entry, too_big, copy_next_of};
 ghost use Rattle.copy.specs.declared.types.Stage.TheVariants as stage;
 
 use crate::types::{CopyEnd, CopyNext, Due, Place, Stage};
+use loading::width_field;
 use measures::Quarters;
 use plan::{Copy, Entry, Strip};
 use strips::{strip_height, strip_of, strip_row};
 use tile::Bounds;
 
-// At cell x of the row of strips at line y.
+// At cell x of the row of strips at line y; that it lies in the frame stands in clauses, as in `strips`.
 fn place_at(c: Copy, x: u64, y: u64, sy: u64, strip_height: u64) -> Place
     requires sound_copy { SoundCopy c }
     requires x_lt_width { x < c.width }
@@ -30,7 +31,7 @@ fn place_at(c: Copy, x: u64, y: u64, sy: u64, strip_height: u64) -> Place
     }
 }
 
-// Before the first row: no cell is to its right, and the row below is the first, so the walk finds it as any other.
+// Before the first row: no cell is to its right, and the row below is the first, so the walk finds it as any other. Written out in full: a default of `Strip` would be no strip, and serve this place alone.
 pub fn copy_start(c: Copy) -> Place
     ensures { result ≡ start_at c }
 {
@@ -51,16 +52,8 @@ pub fn copy_start(c: Copy) -> Place
     }
 }
 
-// The texture image's width field.
-fn width_field(image_width: u64) -> u16
-    requires { 1 ≤ image_width }
-    ensures { result ≡ (image_width - 1) % 2 ^ 16 }
-{
-    ((image_width - 1) % 65536) as u16
-}
-
 fn image_entry(c: Copy) -> Entry
-    requires { 1 ≤ c.image_width }
+    requires { SoundCopy c }
     ensures { result ≡ image_entry c }
 {
     let width = width_field(c.image_width);
@@ -72,6 +65,7 @@ fn image_entry(c: Copy) -> Entry
     }
 }
 
+// The line is cut to its field of 16 bits, by a remainder: a word stays a word, and a cast must not lose bits.
 fn tile_entry(p: Place, index: u64, cms: u64, masks: u64) -> Entry
     ensures { result ≡ tile_entry p index cms masks }
 {
@@ -150,10 +144,10 @@ fn first_texel(flip: bool, load_width: u64, offset: u64) -> i64
         offset as i64
     };
     let s = measures::of_rows(texel);
-    i64::from(signed::signed16(s.0))
+    signed::signed16(s.0)
 }
 
-// Where a cell lies that is a number of cells after an edge.
+// Where a cell lies that is a number of cells after an edge. It is never negative, so its number is taken as it is: `quarters` would test its sign at each strip.
 fn cell_at(edge: Quarters, cells: u64) -> u64
     requires { (Below 12 edge.0) × (cells ≤ 1023) }
     ensures { result ≡ quarters edge + of_texels cells }
@@ -189,9 +183,7 @@ fn too_big(p: Place) -> bool
     requires { SoundPlace p }
     ensures { result ≡ too_big p }
 {
-    let c = p.copy;
-    let s = p.strip;
-    c.capacity < s.line * p.strip_height
+    p.copy.capacity < p.strip.line * p.strip_height
 }
 
 #[tactic(auto, unfolding(crate::specs::Walk::tile7_next, crate::specs::Walk::copy_next_of))]
@@ -238,20 +230,16 @@ fn strip_next(due: Due, p: Place) -> CopyNext
     let s = p.strip;
     let entry = due_entry(due, p);
     let right = p.x + s.strip_width;
-    let mut x: u64 = 0;
-    let mut y = p.y;
-    let mut sy = p.sy;
-    let mut height = p.strip_height;
-    if right < c.width {
-        x = right;
+    let (x, y, sy, height) = if right < c.width {
+        (right, p.y, p.sy, p.strip_height)
     } else {
-        y = p.y + p.strip_height;
-        if c.height <= y {
+        let below = p.y + p.strip_height;
+        if c.height <= below {
             return Ok((entry, Stage::Done, p));
         }
-        sy = strip_row(c, y);
-        height = strip_height(c, y, sy);
-    }
+        let row = strip_row(c, below);
+        (0, below, row, strip_height(c, below, row))
+    };
     let place = place_at(c, x, y, sy, height);
     Ok((entry, Stage::Tile7, place))
 }

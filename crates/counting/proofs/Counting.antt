@@ -7,7 +7,7 @@ use Rattle.signed.specs.Floor.{modulo}
 use Rattle.object.specs.declared.types.Verdict.{Verdict}
 use Rattle.object.specs.declared.types.Verdict.TheVariants as verdict
 use Rattle.load_tile.specs.declared.load.LoadRequest.{LoadRequest}
-use Rattle.load_tile.specs.Load.{words_in, words_of, stride_of, offset_of, rows_of, granted, request_of}
+use Rattle.load_tile.specs.Load.{words_in, words_of, bytes_of, stride_of, offset_of, rows_of, granted, request_of}
 use Rattle.plan.specs.declared.types.Copy.{Copy}
 use Rattle.plan.specs.declared.types.End.{End}
 use Rattle.plan.specs.declared.types.Strip.{Strip}
@@ -24,7 +24,7 @@ use Rattle.copy.specs.declared.types.Place.{Place}
 use Rattle.strips.specs.Strip.{Less, StripIs, Rows, column_is}
 use Rattle.copy.specs.Walk.{place_at, SoundPlace, image_entry, tile_entry, tile0_entry, size_entry, area_of, request_in, rect_entry, too_big}
 use Rattle.copy.specs.Coming.{rest_from, rest_of, due_tail, load_tail, strip_tail, tail_of, too_big_lem, fits, right_tail, row_rest, below_tail}
-use Rattle.counting.specs.Count.{wrap_column, bytes_of, refused_at}
+use Rattle.counting.specs.Count.{wrap_column, refused_at}
 use Rattle.counting.proofs.Wrap.{strip_wrapped, row_below}
 
 -- the end of what is to come, where tile 7 has this line

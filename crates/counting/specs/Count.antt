@@ -1,7 +1,7 @@
 -- What the count of a copy plan's end asks of a strip: where it starts in the image, and whether its load is refused. D is docs/SPECIFICATION.md.
 -- Assumes nothing.
-use Rattle.std.specs.Prelude.{Bool, not, cond, ℕ, ◌+◌, ◌-◌, ◌*◌, ◌/◌, ◌^◌}
-use Rattle.load_tile.specs.Load.{words_in, granted}
+use Rattle.std.specs.Prelude.{Bool, not, cond, ℕ, ◌+◌, ◌-◌}
+use Rattle.load_tile.specs.Load.{words_in, bytes_of, offset_at, length_of, granted}
 use Rattle.plan.specs.declared.types.Copy.{Copy}
 use Rattle.plan.specs.declared.types.Strip.{Strip}
 
@@ -9,12 +9,8 @@ use Rattle.plan.specs.declared.types.Strip.{Strip}
 abbrev pub wrap_column : Copy → ℕ
 wrap_column c = cond c.flip (c.image_width - 1) 0
 
--- the bytes of n texels of a row, half a byte each for siz 0
-abbrev pub bytes_of : (siz n : ℕ) → ℕ
-bytes_of siz n = n * 2 ^ siz / 2
-
 -- D verdict 9 "a request is given only if start plus length stays within 2^64 − 1": whether the load of a strip from image row sy is refused, where no bound is cut to 16 bits
 abbrev pub refused_at : Copy → Strip → (sy height : ℕ) → Bool
 refused_at c s sy height =
     let row = bytes_of c.siz c.image_width in
-    not (granted (c.address + (bytes_of c.siz s.aligned_left + row * sy)) ((height - 1) * row + 8 * words_in c.siz (s.load_width - 1)))
+    not (granted (c.address + offset_at c.siz row s.aligned_left sy) (length_of height row (words_in c.siz (s.load_width - 1))))

@@ -4,14 +4,14 @@ ghost use Rattle.plan.specs.Out.{plan_out};
 ghost use Rattle.plan.specs.Copy.{copy_plan};
 ghost use Rattle.plan.specs.Run.{end_of};
 ghost use Rattle.plan.specs.Sound.{SoundCopy};
-ghost use Rattle.strips.specs.Frame.{AtMost};
-ghost use Rattle.counting.specs.Count.{wrap_column, bytes_of, refused_at};
+ghost use Rattle.counting.specs.Count.{wrap_column, refused_at};
 
+use load_tile::{bytes_of, granted, length, offset, words_in};
 use object::Verdict;
 use plan::{Copy, End, Strip};
 use strips::{column_at, strip_from, strip_height, strip_row};
 
-// Image row sy, or the first where sy is past the last.
+// Image row sy, or the first where sy is past the last: compared, as a remainder is a division for each row of strips; in C the same loops took twice as long with one.
 fn row_after(c: Copy, sy: u64) -> u64
     requires { (1 ≤ c.image_height) × (sy ≤ c.image_height) }
     ensures { result ≡ sy % c.image_height }
@@ -19,15 +19,7 @@ fn row_after(c: Copy, sy: u64) -> u64
     if sy == c.image_height { 0 } else { sy }
 }
 
-// The bytes of a number of texels.
-fn bytes_of(siz: u64, texels: u64) -> u64
-    requires { (siz ≤ 3) × (texels ≤ 16383) }
-    ensures { AtMost (bytes_of siz texels) 65532 result }
-{
-    (texels << siz) / 2
-}
-
-// The load of the strip from this row would reach the end of the address space.
+// The load of the strip from this row would reach the end of the address space: the sums of a load's request over the strip's own numbers, which are not cut to a tile's 16 bits. siz is a number here too, as an entry has it.
 fn refused(c: Copy, s: Strip, sy: u64, strip_height: u64) -> bool
     requires sound_copy { SoundCopy c }
     requires columns { (s.aligned_left ≤ 16383) × ((1 ≤ s.load_width) × (s.load_width ≤ 1038)) }
@@ -35,9 +27,9 @@ fn refused(c: Copy, s: Strip, sy: u64, strip_height: u64) -> bool
     ensures { result ≡ refused_at c s sy strip_height }
 {
     let row = bytes_of(c.siz, c.image_width);
-    let offset = bytes_of(c.siz, s.aligned_left) + row * sy;
-    let length = (strip_height - 1) * row + 8 * load_tile::words_in(c.siz, s.load_width - 1);
-    !load_tile::granted(c.address, offset, length)
+    let offset = offset(c.siz, row, s.aligned_left, sy);
+    let length = length(strip_height, row, words_in(c.siz, s.load_width - 1));
+    !granted(c.address, offset, length)
 }
 
 // The row walk and the column walk: the first strip that is refused ends both at once. Every strip but the first of its row starts at image column `wrap`.

@@ -19,12 +19,13 @@ pub(crate) struct Cut {
 }
 
 // The distance from the origin, in 1,024ths of an image row.
+#[tactic(auto, unfolding(crate::specs::First::image_offset_of))]
 fn image_offset(y: ThirtySeconds, origin: ThirtySeconds) -> i64
     requires { (Below 20 y.0) × Around 33 origin.0 }
     ensures value { result ≡ image_offset_of y.0 origin.0 }
     ensures around { Around 39 result }
 {
-    measures::of_position(ThirtySeconds(y.0 - origin.0))
+    measures::of_position(y - origin)
 }
 
 // The same in 1,024ths of a frame line, rounded down to a whole line.

@@ -42,13 +42,11 @@ pub struct Gave {
 fn tile_placed(p: Places, index: u64, place: usize) -> Places
     ensures { result ≡ tile_placed p index place }
 {
-    let mut q = p;
     if index == 7 {
-        q.tile7 = place;
+        Places { tile7: place, ..p }
     } else {
-        q.tile0 = place;
+        Places { tile0: place, ..p }
     }
-    q
 }
 
 // Gives an entry; what is known after it. A table with all that a kind does in one arm, so longer than other functions: the compiler then jumps by the kind once.
@@ -63,7 +61,7 @@ pub fn give(plan: &mut [u64], at: usize, places: Places, n: Counts, e: Entry) ->
             width,
             address,
         } => {
-            store(&mut *plan, at, image_words(fmt, siz, width, address));
+            store(plan, at, image_words(fmt, siz, width, address));
             let counts = counted(n, e);
             Gave { counts, places }
         }
@@ -80,7 +78,7 @@ pub fn give(plan: &mut [u64], at: usize, places: Places, n: Counts, e: Entry) ->
             maskt,
         } => {
             store(
-                &mut *plan,
+                plan,
                 at,
                 tile_words(index, fmt, siz, line, tmem, palette, cms, cmt, masks, maskt),
             );
@@ -95,7 +93,7 @@ pub fn give(plan: &mut [u64], at: usize, places: Places, n: Counts, e: Entry) ->
             lrs,
             lrt,
         } => {
-            store(&mut *plan, at, size_words(index, uls, ult, lrs, lrt));
+            store(plan, at, size_words(index, uls, ult, lrs, lrt));
             let counts = counted(n, e);
             let places = Places {
                 bounds0: at + 1,
@@ -116,7 +114,7 @@ pub fn give(plan: &mut [u64], at: usize, places: Places, n: Counts, e: Entry) ->
             length,
         } => {
             store(
-                &mut *plan,
+                plan,
                 at,
                 load_words(
                     index, uls, ult, lrs, lrt, words, rows, stride, start, length,
@@ -142,7 +140,7 @@ pub fn give(plan: &mut [u64], at: usize, places: Places, n: Counts, e: Entry) ->
             row,
         } => {
             store(
-                &mut *plan,
+                plan,
                 at,
                 rect_words(tile, ulx, uly, lrx, lry, uls, ult, dsdx, dtdy, row),
             );

@@ -1,9 +1,12 @@
-// An end as 64-bit words, for hosts.
+// What hosts hold as 64-bit words: an end, and how many of them a tile has.
 ghost use Rattle.std.specs.Prelude.{◌≡◌};
 ghost use Rattle.giving.specs.Host.{end_numbers};
 
 use checks::number;
 use plan::End;
+
+// A tile's words: its fields in their order.
+pub const TILE: usize = 17;
 
 // The verdict's number and the three counts.
 #[tactic(auto, unfolding(crate::specs::Host::end_numbers))]

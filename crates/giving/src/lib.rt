@@ -5,4 +5,4 @@ mod giving;
 mod host;
 
 pub use giving::{Gave, Places, give, no_places};
-pub use host::end_numbers;
+pub use host::{TILE, end_numbers};

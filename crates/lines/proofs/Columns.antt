@@ -1,15 +1,15 @@
 -- A column: digits from the right, then the mark, over blanks that stand already.
 -- Assumes nothing.
 use mathlib.Core.Path.{◌≡◌, refl, sym, ap, ◌∙◌}
-use mathlib.Core.Bool.{Bool, true, false, cond, ◌&&◌}
+use mathlib.Core.Bool.{Bool, true, false, cond}
+use mathlib.Core.Logic.{◌⊎◌, inl, inr}
 use mathlib.Core.List.{List, [], ◌∷◌, ◌++◌, append_assoc, append-nil}
 use Prim.Native.Nat.{ℕ, zero, suc, ◌+◌, ◌-◌, ◌/◌, ◌%◌, ◌≤◌, ◌<◌}
 use native.Mathlib.Omega.{arith}
-use lib.Dec.{ltb, leb}
+use lib.Dec.{leb}
 use lib.ListN.{length, take, drop, set, replicate, length-append, length-replicate, replicate-append-replicate}
 use lib.Seq.{take-take}
-use borrow.Author.Tests.{ltb-true, ltb-false}
-use Rattle.std.proofs.lemmas.Bool.{le-leb, lt-leb, and_parts}
+use Rattle.std.proofs.lemmas.Bool.{le-leb, lt-leb}
 use Rattle.lines.specs.Text.{space, minus, digits_of, leading, column, is_negative, magnitude_of, cell}
 use Rattle.lines.specs.Lines.{with_text, PutIs, Blank, DigitsIs}
 use Rattle.lines.proofs.Texts.{with_nil, with_before, with_lead}
@@ -135,26 +135,23 @@ module _ (out : List ℕ) (at w x : ℕ) (b : Blank out at w) (end : ℕ) (e : e
   put_is out'' i = record { next = e ∙ ap (λ (n : ℕ). at + n) (sym (cell_length w x)); is = i ∙ ap (with_text out at) (sym cell_is) }
 
   -- no mark, or no place for it
-  plain : (t : Bool) → (t && ltb at r) ≡ false → leading (cond t minus space) (r - at) ≡ replicate (r - at) space
+  plain : (t : Bool) → ((t ≡ true) × (r ≤ at)) ⊎ (t ≡ false) → leading (cond t minus space) (r - at) ≡ replicate (r - at) space
   unfolding leading
-  plain true i = let k : r - at ≡ 0 = omega (arith, ltb-false at r i) in ap (leading minus) k ∙ ap (λ (n : ℕ). replicate n space) (sym k)
+  plain true (inl i) = let k : r - at ≡ 0 = omega (arith, i.1) in ap (leading minus) k ∙ ap (λ (n : ℕ). replicate n space) (sym k)
+  plain true (inr i) = cc
   plain false i = leads (r - at)
 
-  pub put_plain : (is_negative w x && ltb at r) ≡ false → PutIs out at (cell w x) out' end
+  pub put_plain : ((is_negative w x ≡ true) × (r ≤ at)) ⊎ (is_negative w x ≡ false) → PutIs out at (cell w x) out' end
   unfolding mark
   put_plain i =
       let k : r ≡ at + (r - at) = omega (arith, d.from) in
       put_is out' (
       number_is ∙ ap (λ (n : ℕ). with_text out n number) k ∙ blanks (r - at) (omega (arith, place)) number ∙ ap (λ (xs : List ℕ). with_text out at (xs ++ number)) (sym (plain (is_negative w x) i)))
 
-  pub marked_from : (is_negative w x && ltb at r) ≡ true → at < r
-  marked_from i = ltb-true at r (and_parts (is_negative w x) (ltb at r) i).1
-
   -- the minus sign before the digits
-  pub put_marked : (is_negative w x && ltb at r) ≡ true → PutIs out at (cell w x) (set out' (r - 1) minus) end
+  pub put_marked : is_negative w x ≡ true → at < r → PutIs out at (cell w x) (set out' (r - 1) minus) end
   unfolding mark leading
-  put_marked i =
-      let l = marked_from i in
+  put_marked i l =
       let k = r - 1 - at in
       let n : r - at ≡ suc k = omega arith in
       let m : r ≡ at + k + 1 = omega arith in
@@ -166,4 +163,4 @@ module _ (out : List ℕ) (at w x : ℕ) (b : Blank out at w) (end : ℕ) (e : e
       s
       ∙ blanks k (omega (arith, place)) (minus ∷ number)
       ∙ ap (with_text out at) (sym (append_assoc (replicate k space) (minus ∷ []) number))
-      ∙ (λ y. with_text out at (leading (cond (sym (and_parts (is_negative w x) (ltb at r) i).0 y) minus space) (sym n y) ++ number)))
+      ∙ (λ y. with_text out at (leading (cond (sym i y) minus space) (sym n y) ++ number)))

@@ -3,10 +3,10 @@ ghost use Rattle.std.specs.Prelude.{◌≡◌, ◌+◌, ◌-◌, ◌%◌, ◌≤
 ghost use Rattle.lines.specs.Text.{space, is_negative, magnitude_of, cell};
 ghost use Rattle.lines.specs.Lines.{with_text, Blank, DigitsIs, PutIs};
 
-// Columns of this width hold addresses and lengths, which are never negative.
-const WIDE: u8 = 21;
+// Columns of this width hold addresses and lengths, which are never negative. A column's width says its kind, as the text's definition has it: a kind beside each width would be a second list to agree with the first.
+pub(crate) const WIDE: u8 = 21;
 
-// A place goes with all of the caller's bytes and not with a part of them: the promises are equations for every byte.
+// A place is passed with all of the caller's bytes, since each promise says what every byte holds.
 
 // Blanks from one place to another: a line gets its blanks at once, so that a column writes nothing but its number.
 #[tactic(auto, unfolding(crate::specs::Lines::with_text))]
@@ -21,7 +21,7 @@ pub(crate) fn blank(out: &mut [u8], at: usize, end: usize)
 fn is_negative(width: u8, x: u64) -> bool
     ensures { result ≡ is_negative width x }
 {
-    (width < WIDE) & x.cast_signed().is_negative()
+    width < WIDE && x.cast_signed().is_negative()
 }
 
 fn magnitude(width: u8, x: u64) -> u64
@@ -37,7 +37,7 @@ fn magnitude(width: u8, x: u64) -> u64
 fn digit(n: u64) -> u8
     ensures { result ≡ 48 + n % 10 }
 {
-    48 + (n % 10) as u8
+    b'0' + (n % 10) as u8
 }
 
 // A number's digits before a place, as many as there is room for; where the first stands.
@@ -63,7 +63,7 @@ pub(crate) fn put(out: &mut [u8], at: usize, width: u8, x: u64) -> usize
 {
     let end = at + usize::from(width);
     let first = digits(out, at, end, magnitude(width, x));
-    if is_negative(width, x) & (at < first) {
+    if is_negative(width, x) && at < first {
         out[first - 1] = b'-';
     }
     end

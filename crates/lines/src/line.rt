@@ -1,9 +1,9 @@
-// The lines of entries and ends.
+// The lines of entries and ends, into bytes that the caller lends and with an equation for every byte: `Display` would promise nothing of the text.
 ghost use Rattle.std.specs.Prelude.{◌≡◌, ◌+◌, ◌≤◌, length};
 ghost use Rattle.lines.specs.Text.{line, widths_of, entry_text, end_text};
 ghost use Rattle.lines.specs.Lines.{PutIs, total_of};
 
-use crate::column::{blank, put};
+use crate::column::{WIDE, blank, put};
 use plan::{End, Entry};
 use words::{end_words, entry_words};
 
@@ -39,10 +39,10 @@ fn widths_of(e: Entry) -> [u8; 11]
     ensures { result ≡ widths_of e }
 {
     match e {
-        Entry::Image { .. } => [2, 8, 8, 8, 21, 0, 0, 0, 0, 0, 0],
+        Entry::Image { .. } => [2, 8, 8, 8, WIDE, 0, 0, 0, 0, 0, 0],
         Entry::Tile { .. } | Entry::Rect { .. } => [2, 8, 8, 8, 8, 8, 8, 8, 8, 8, 8],
         Entry::Size { .. } => [2, 8, 8, 8, 8, 8, 0, 0, 0, 0, 0],
-        Entry::Load { .. } => [2, 8, 8, 8, 8, 8, 8, 8, 8, 21, 21],
+        Entry::Load { .. } => [2, 8, 8, 8, 8, 8, 8, 8, 8, WIDE, WIDE],
     }
 }
 

@@ -20,32 +20,43 @@ words_of siz uls lrs = words_in siz (lrs / 4 - uls / 4)
 abbrev pub rows_of : (ult lrt : ℕ) → ℕ
 rows_of ult lrt = 1 + (lrt / 4 - ult / 4)
 
+-- the bytes of n texels of a row, half a byte each for siz 0
+abbrev pub bytes_of : (siz n : ℕ) → ℕ
+bytes_of siz n = n * 2 ^ siz / 2
+
 -- D "stride = floor((image width field + 1) × 2^siz / 2)"
 abbrev pub stride_of : (siz width : ℕ) → ℕ
-stride_of siz width = (width + 1) * 2 ^ siz / 2
+stride_of siz width = bytes_of siz (width + 1)
 
--- D "floor(uls × 2^siz / 2) + stride × ult": the bytes before the tile's first texel
+-- D "floor(uls × 2^siz / 2) + stride × ult": the bytes before a column and a row, and before the tile's first texel
+abbrev pub offset_at : (siz stride column row : ℕ) → ℕ
+offset_at siz stride column row = bytes_of siz column + stride * row
+
 abbrev pub offset_of : (siz stride uls ult : ℕ) → ℕ
-offset_of siz stride uls ult = uls / 4 * 2 ^ siz / 2 + stride * (ult / 4)
+offset_of siz stride uls ult = offset_at siz stride (uls / 4) (ult / 4)
+
+-- D "length = (rows − 1) × stride + 8 × words"
+abbrev pub length_of : (rows stride words : ℕ) → ℕ
+length_of rows stride words = (rows - 1) * stride + 8 * words
 
 -- D "a request is given only if start plus length stays within 2^64 − 1": whether a load of these bytes is granted
 abbrev pub granted : (start length : ℕ) → Bool
 granted start length = ltb (start + length) (2 ^ 64)
 
--- the request, where it is granted
-abbrev pub pick_request : Bool → LoadRequest → Option LoadRequest
-pick_request true r = Some r
-pick_request false r = None
+-- what a load asks for, where it is granted
+abbrev pub pick : {A : Type 0} → Bool → A → Option A
+pick true a = Some a
+pick false a = None
 
--- D "start = address + ..", "length = (rows − 1) × stride + 8 × words"
+-- D "start = address + .."
 unfoldable pub request_of : (siz width address uls ult lrs lrt : ℕ) → Option LoadRequest
 request_of siz width address uls ult lrs lrt =
     let words = words_of siz uls lrs in
     let rows = rows_of ult lrt in
     let stride = stride_of siz width in
     let start = address + offset_of siz stride uls ult in
-    let length = (rows - 1) * stride + 8 * words in
-    pick_request (granted start length) (record { words = words; rows = rows; stride = stride; start = start; length = length })
+    let length = length_of rows stride words in
+    pick (granted start length) (record { words = words; rows = rows; stride = stride; start = start; length = length })
 
 -- the rows that a request asks for
 abbrev pub rows_in_request : Option LoadRequest → ℕ

@@ -3,9 +3,9 @@
 use Rattle.std.specs.Prelude.{Bool, true, false, ℕ, ◌+◌, ◌-◌, ◌*◌, ◌≤◌, ◌<◌}
 use Rattle.std.proofs.Common.{arith}
 use Rattle.load_tile.specs.declared.load.LoadRequest.{LoadRequest}
-use Rattle.load_tile.specs.Load.{words_of, rows_of, stride_of, offset_of, granted, pick_request, request_of, rows_in_request}
+use Rattle.load_tile.specs.Load.{words_of, rows_of, stride_of, offset_of, granted, pick, request_of, rows_in_request}
 
-picked_rows : (t : Bool) (r : LoadRequest) (m : ℕ) → r.rows ≤ m → rows_in_request (pick_request t r) ≤ m
+picked_rows : (t : Bool) (r : LoadRequest) (m : ℕ) → r.rows ≤ m → rows_in_request (pick t r) ≤ m
 picked_rows true r m h = h
 picked_rows false r m h = omega arith
 

@@ -3,4 +3,4 @@
 
 mod load;
 
-pub use load::{LoadRequest, granted, load_request, words_in};
+pub use load::{LoadRequest, bytes_of, granted, length, load_request, offset, words_in};

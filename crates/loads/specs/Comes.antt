@@ -71,6 +71,20 @@ sum_in k a b f g =
     let e = pow-suc 2 k in
     record { low = simp zdiff (omega zarith); high = simp zdiff (omega zarith) }
 
+-- a difference and a sum of two signed words: the bits of each fit, and read as it
+module _ {k : ℕ} {a b : ℤ} (p : 2 ^ suc k ≤ 2 ^ 62) (f : Within k a) (g : Within k b) where
+  within_too : 2 ^ k ≤ 2 ^ 62
+  within_too = let e = pow-suc 2 k in omega arith
+
+  pub difference_fits : SFits w64 (to_z w64 (of_z w64 a) -ℤ to_z w64 (of_z w64 b))
+  difference_fits = rw (read_in k a within_too f, read_in k b within_too g) (fits (suc k) (a -ℤ b) p (difference_in k a b f g))
+
+  pub difference_is : to_z w64 (of_z w64 (to_z w64 (of_z w64 a) -ℤ to_z w64 (of_z w64 b))) ≡ a -ℤ b
+  difference_is = rw (read_in k a within_too f, read_in k b within_too g) (read_in (suc k) (a -ℤ b) p (difference_in k a b f g))
+
+  pub sum_is : to_z w64 (of_z w64 (to_z w64 (of_z w64 a) +ℤ to_z w64 (of_z w64 b))) ≡ a +ℤ b
+  sum_is = rw (read_in k a within_too f, read_in k b within_too g) (read_in (suc k) (a +ℤ b) p (sum_in k a b f g))
+
 pub floor_in : (k : ℕ) (z : ℤ) (m : ℕ) → Within k z → Within k (floor_div z m)
 floor_in k (pos n) m f = let b = bounded k (pos n) f in within k (pos (n / m)) (omega (arith, b.up_le, div-le_self n m)) (omega arith)
 floor_in k (negsuc n) m f = let b = bounded k (negsuc n) f in within k (negsuc (n / m)) (omega arith) (omega (arith, b.dn_le, div-le_self n m))

@@ -1,14 +1,17 @@
 -- Address sums by cases: in range, below 0, beyond 2^64 − 1; and as the checked sums of `u64`.
 -- Assumes nothing.
-use Rattle.std.specs.Prelude.{◌≡◌, refl, Option, Some, None, SomeIff, Bool, true, false, ℕ, suc, ◌+◌, ◌-◌, ◌^◌, ◌≤◌, ◌<◌, ltb, ℤ, pos, negsuc, neg_ℤ, ◌+ℤ◌, ◌<ℤ◌, nat_abs}
+use Rattle.std.specs.Prelude.{◌≡◌, refl, Option, Some, None, SomeIff, Bool, true, false, ℕ, zero, suc, ◌+◌, ◌-◌, ◌*◌, ◌^◌, ◌≤◌, ◌<◌, ltb, ℤ, pos, negsuc, neg_ℤ, ◌+ℤ◌, ◌<ℤ◌, nat_abs}
 use Rattle.std.proofs.Common.{ap, ◌∙◌, sym, lt-ltb, le-ltb, arith}
 use Rattle.std.proofs.lemmas.Bool.{false≢true}
 use Rattle.std.specs.Int.Signed.{lt_z}
 use Rattle.signed.specs.Diff.{up, zdiff, zarith}
 use Rattle.object.specs.declared.types.Verdict.TheVariants as verdict
 use Rattle.plan.specs.Out.{Out, yield, refuse}
+use Rattle.plan.specs.declared.types.Scaled.{Scaled}
 use Rattle.plan.specs.Load.{source_address}
+use Rattle.plan.specs.Scaled.{back}
 use Rattle.loads.specs.Coming.{sum_out}
+use Rattle.loads.specs.Loads.{back_none, back_one}
 
 -- the sum as a function of its value
 abbrev by_sum : ℤ → Out ℕ
@@ -50,6 +53,12 @@ checked_sum a n (Some x) h = rw h.1 (sym (sum_in a (a + n) (pos n) refl h.0))
 pub checked_difference : (a n : ℕ) (r : Option ℕ) → a < 2 ^ 64 → SomeIff r (n ≤ a) (a - n) → sum_out r ≡ source_address a (neg_ℤ (pos n))
 checked_difference a n None f h = sym (sum_below a (neg_ℤ (pos n)) (simp zdiff (omega zarith)))
 checked_difference a n (Some x) f h = rw h.1 (sym (sum_in a (a - n) (neg_ℤ (pos n)) (simp zdiff (omega zarith)) (omega arith)))
+
+-- R 189–190, 201–203: no row back, or one, as one offset
+pub back_is : (z : Scaled) (odd p : ℕ) → odd ≤ 1 → p < 2 ^ 64 → back z odd p ≡ source_address p (neg_ℤ (pos (odd * z.stride)))
+back_is z zero p h f = let e : 0 * z.stride ≡ 0 = omega arith in rw (e, back_none z 0 p refl) (sym (sum_in p p (neg_ℤ (pos 0)) (simp zdiff (omega zarith)) f))
+back_is z (suc zero) p h f = let e : 1 * z.stride ≡ z.stride = omega arith in rw e (back_one z 1 p refl)
+back_is z (suc (suc n)) p h f = absurd (omega arith)
 
 -- the same of an offset of either sign
 pub checked_on : (a : ℕ) (z : ℤ) (r : Option ℕ) → lt_z z (pos 0) ≡ false → SomeIff r (a + nat_abs z < 2 ^ 64) (a + nat_abs z) → sum_out r ≡ source_address a z

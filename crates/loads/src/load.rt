@@ -1,5 +1,5 @@
 // The parts of a pass's load, in their order: `load_1cyc` and `load_1cyc_tile`.
-ghost use Rattle.std.specs.Prelude.{◌≡◌, true, ◌+◌, ◌-◌, pos, ◌-ℤ◌};
+ghost use Rattle.std.specs.Prelude.{◌≡◌, true, ◌+◌, ◌-◌, ◌≤◌, pos, ◌-ℤ◌};
 ghost use Rattle.std.specs.Int.Signed.{lt_z};
 ghost use Rattle.measures.specs.Range.{Within};
 ghost use Rattle.plan.specs.Sound.{SoundScaled};
@@ -9,34 +9,28 @@ ghost use Rattle.loads.specs.Loads.{part_bad};
 ghost use Rattle.loads.specs.Sound.{SoundPass, SoundPart, SplitIs, Reaches, Meets, Chose, left_pass, after_piece};
 ghost use Rattle.loads.specs.declared.types.Piece.TheVariants.{Start, Top, SplitB, SplitA, Rest};
 
-use crate::rows::{difference, less, plus, sum, times};
+use crate::rows::{less, plus, times};
 use crate::sums::{advance, source_address};
 use crate::types::{Choice, Part, Piece, Place, Reached, Split, Stage};
 use object::Verdict;
 use plan::{Scaled, Source};
 
 // Verdict 8: no rows, no columns, or a place before texture memory.
-fn part_bad(rows: i64, destination: i64, width: i64) -> bool
-    ensures { result ≡ part_bad rows destination width }
+fn part_bad(part: Part) -> bool
+    ensures { result ≡ part_bad part.rows part.destination part.width }
 {
-    rows <= 0 || width <= 0 || destination < 0
+    part.rows <= 0 || part.width <= 0 || part.destination < 0
 }
 
 // The part as the next that is given, with its tile, or verdict 8.
-fn enter(k: Piece, pointer: u64, rows: i64, destination: i64, width: i64, p: Place) -> Reached
+fn enter(k: Piece, part: Part, p: Place) -> Reached
     requires sound_pass { SoundPass p }
-    requires within { (Within 47 rows) × Within 47 width }
-    ensures { Reaches (part_then k p pointer rows destination width) (3 + after_piece k + left_pass p) result }
+    requires sound_part { SoundPart part }
+    ensures { Reaches (part_then k p part.pointer part.rows part.destination part.width) (3 + after_piece k + left_pass p) result }
 {
-    if part_bad(rows, destination, width) {
+    if part_bad(part) {
         return Err(Verdict::Piece);
     }
-    let part = Part {
-        pointer,
-        rows,
-        destination,
-        width,
-    };
     let q = Place {
         part,
         piece: k,
@@ -58,14 +52,12 @@ pub fn whole_part(p: Place) -> Part
     }
 }
 
-// One row back, where a load must start at an even row.
+// One row back where `odd` is 1, as a load must start at an even row.
 fn back(z: Scaled, odd: u64, pointer: u64) -> Option<u64>
+    requires { odd ≤ 1 }
     ensures { sum_out result ≡ back_of z odd pointer }
 {
-    if odd == 0 {
-        return Some(pointer);
-    }
-    pointer.checked_sub(z.stride)
+    pointer.checked_sub(odd * z.stride)
 }
 
 // After the rows up to the image's end: the move, and the rectangle.
@@ -88,7 +80,7 @@ pub fn moved_on(p: Place) -> Reached
     let source = p.walk.source;
     let bytes = times(p.rows, p.scaled.stride);
     let pointer = source_address(source.pointer, bytes).ok_or(Verdict::Address)?;
-    let remain = difference(source.remain, p.rows);
+    let remain = source.remain - p.rows;
     let next = Source { pointer, remain };
     let mut q = p;
     q.next = next;
@@ -102,9 +94,13 @@ fn rest(p: Place) -> Reached
     ensures { Reaches (pass_from p (after_part SplitA p)) (4 + left_pass p) result }
 {
     let source = p.walk.source;
-    let loadable = less(source.remain, p.scaled.split);
-    let width = p.scaled.line as i64;
-    enter(Piece::Rest, source.pointer, loadable, 0, width, p)
+    let part = Part {
+        pointer: source.pointer,
+        rows: less(source.remain, p.scaled.split),
+        destination: 0,
+        width: p.scaled.line as i64,
+    };
+    enter(Piece::Rest, part, p)
 }
 
 // The two parts of the image's last row: their rows, where they go, and the width of the first.
@@ -125,8 +121,13 @@ fn split_a(p: Place) -> Reached
     ensures { Reaches (pass_from p (after_part SplitB p)) (7 + left_pass p) result }
 {
     let s = split(p.scaled, p.walk.source);
-    let rows = s.odd as i64 + 1;
-    enter(Piece::SplitA, p.spare, rows, s.from, s.width, p)
+    let part = Part {
+        pointer: p.spare,
+        rows: s.odd as i64 + 1,
+        destination: s.from,
+        width: s.width,
+    };
+    enter(Piece::SplitA, part, p)
 }
 
 // The second part of the last row comes first.
@@ -135,11 +136,14 @@ fn split_b(pointer: u64, spare: u64, s: Split, p: Place) -> Reached
     requires split_is { SplitIs p.scaled p.walk.source s }
     ensures { Reaches (parts_from p pointer spare) (10 + left_pass p) result }
 {
-    let rows = s.odd as i64 + 1;
-    let destination = sum(s.from, s.width);
-    let width = difference(p.scaled.line as i64, s.width);
+    let part = Part {
+        pointer,
+        rows: s.odd as i64 + 1,
+        destination: s.from + s.width,
+        width: p.scaled.line as i64 - s.width,
+    };
     let q = Place { spare, ..p };
-    enter(Piece::SplitB, pointer, rows, destination, width, q)
+    enter(Piece::SplitB, part, q)
 }
 
 // The image's last row where it runs over into the first.
@@ -167,19 +171,17 @@ fn from_top(lines: i64, p: Place) -> Reached
 {
     let z = p.scaled;
     let remain = p.walk.source.remain;
-    let rows = difference(lines, remain);
+    let rows = lines - remain;
     let first = z.address.checked_add(z.x_offset).ok_or(Verdict::Address)?;
     let odd = signed::rem_euclid(remain, 2);
     let pointer = back(z, odd, first).ok_or(Verdict::Address)?;
-    let destination = times(less(remain, odd), z.line);
-    enter(
-        Piece::Top,
+    let part = Part {
         pointer,
-        plus(rows, odd),
-        destination,
-        z.line as i64,
-        p,
-    )
+        rows: plus(rows, odd),
+        destination: times(less(remain, odd), z.line),
+        width: z.line as i64,
+    };
+    enter(Piece::Top, part, p)
 }
 
 // A load that wraps starts with the rows from the top.
@@ -198,7 +200,7 @@ fn whole(p: Place) -> Reached
     ensures { Reaches (pass_from p (after_part Start p)) (13 + left_pass p) result }
 {
     let part = whole_part(p);
-    if part_bad(part.rows, 0, part.width) {
+    if part_bad(part) {
         return Err(Verdict::Piece);
     }
     Ok((Stage::Whole, p))
@@ -237,7 +239,7 @@ fn at_start(p: Place) -> Choice
     let load_rows = plus(p.rows, p.scaled.bilerp);
     if load_rows <= less(remain, p.scaled.split) {
         Choice::Whole
-    } else if difference(load_rows, remain) <= 0 {
+    } else if load_rows - remain <= 0 {
         after_top(p)
     } else {
         Choice::Top

@@ -1,13 +1,7 @@
-// Sums and products of row counts, which may be negative.
+// A row count, which may be negative, with a number that may not: `a + n`, `a - n` and `a * n` over two types.
+// Tried as operators: each place then has a cast, and that the number fits is asked there as it is here; in `moved_on` it needs an answer, where the clause of `times` needs none.
 ghost use Rattle.std.specs.Prelude.{◌≡◌, ◌≤◌, ◌^◌, pos, ◌+ℤ◌, ◌-ℤ◌, ◌*ℤ◌};
 ghost use Rattle.measures.specs.Range.{Within};
-
-pub fn difference(a: i64, b: i64) -> i64
-    requires { (Within 60 a) × Within 60 b }
-    ensures { result ≡ a -ℤ b }
-{
-    a - b
-}
 
 pub fn plus(a: i64, n: u64) -> i64
     requires { (Within 61 a) × (n ≤ 2 ^ 40) }
@@ -29,11 +23,4 @@ pub fn times(a: i64, n: u64) -> i64
     ensures { result ≡ a *ℤ pos n }
 {
     a * n as i64
-}
-
-pub fn sum(a: i64, b: i64) -> i64
-    requires { (Within 61 a) × Within 61 b }
-    ensures { result ≡ a +ℤ b }
-{
-    a + b
 }

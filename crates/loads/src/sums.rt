@@ -6,7 +6,7 @@ ghost use Rattle.plan.specs.Load.{source_address};
 ghost use Rattle.plan.specs.Scaled.{advance as advance_of};
 ghost use Rattle.loads.specs.Coming.{sum_out, moved_out};
 
-use crate::rows::{difference, less, plus, times};
+use crate::rows::{less, plus, times};
 use plan::{Scaled, Source};
 
 // `source_address`: an address and an offset of either sign. `checked_add_signed` took longer: it makes the offset's size before it looks at the sign.
@@ -26,12 +26,12 @@ pub fn advance(z: Scaled, source: Source, rows: i64) -> Option<Source>
     requires within { (Within 44 source.remain) × Within 44 rows }
     ensures { moved_out result ≡ advance_of z source rows }
 {
-    let remain = difference(source.remain, rows);
+    let remain = source.remain - rows;
     if 0 < remain {
         let pointer = source_address(source.pointer, times(rows, z.stride))?;
         return Some(Source { pointer, remain });
     }
-    let past = difference(rows, source.remain);
+    let past = rows - source.remain;
     let back = plus(times(past, z.stride), z.x_offset);
     let pointer = source_address(z.address, back)?;
     let remain = plus(remain, z.source_rows);

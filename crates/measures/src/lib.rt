@@ -1,7 +1,8 @@
-// The three measures, and the conversions between them.
+// The three measures, their sums, and the conversions between them.
 #![tactic(auto)]
 
 mod measure;
+mod sums;
 mod types;
 
 pub use measure::{

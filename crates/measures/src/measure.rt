@@ -1,4 +1,4 @@
-// The conversions between the measures, and between a measure and whole texels, rows and lines: no other file multiplies, divides or shifts from one to another.
+// The conversions between the measures, and between a measure and whole texels, rows and lines. Elsewhere plain numbers are divided and multiplied: a tile's bounds and a rectangle's lines, which are fields of an entry (tile, load_tile, ruler), sums and counts in 1,024ths (ruler, stored_scaled), a ruler's image height and origin, and the words of a row (scaled).
 // Widths, heights and image positions are never negative: a number below 0 counts as 0.
 // The customer names three tuple structs and conversions by name: a trait over two of them would be longer than the pairs that it joins.
 ghost use Rattle.std.specs.Prelude.{◌≡◌, ◌≤◌, ◌<◌, ◌^◌, ◌/◌, pos};
@@ -79,10 +79,10 @@ pub fn of_thirty_seconds(n: u64) -> ThirtySeconds
 }
 
 // The Rust's `.max(0)` of a number of quarters.
-pub fn extent(z: i64) -> Quarters
-    ensures { result ≡ extent z }
+pub fn extent(q: Quarters) -> Quarters
+    ensures { result ≡ extent q.0 }
 {
-    of_quarters(positive(z))
+    of_quarters(quarters(q))
 }
 
 // Whole texels of a width, whole lines of a height.
@@ -150,8 +150,7 @@ pub fn in_image(q: Quarters) -> ThirtySeconds
     requires { quarters q ≤ 2 ^ 20 }
     ensures { result ≡ width_in_image q }
 {
-    let n = quarters(q) * 8;
-    ThirtySeconds(n as i64)
+    of_thirty_seconds(quarters(q) * 8)
 }
 
 // What a frame width at a scale takes of the image.
@@ -159,8 +158,7 @@ pub fn sampled_by(q: Quarters, scale: Scale) -> ThirtySeconds
     requires { (quarters q ≤ 2 ^ 20) × (scale.0 ≤ 65535) }
     ensures { result ≡ width_sampled q scale }
 {
-    let n = (quarters(q) * scale.0) >> 7;
-    ThirtySeconds(n as i64)
+    of_thirty_seconds((quarters(q) * scale.0) >> 7)
 }
 
 // The frame width that an image width gives at a scale.
@@ -168,8 +166,7 @@ pub fn shown_at(q: Quarters, scale: Scale) -> Quarters
     requires { (quarters q ≤ 2 ^ 20) × (1 ≤ scale.0) }
     ensures { result ≡ width_shown q scale }
 {
-    let n = (quarters(q) << 10) / scale.0;
-    of_quarters(n)
+    of_quarters((quarters(q) << 10) / scale.0)
 }
 
 // Counts of rows and of lines in 1,024ths are no measure: a scale is a ratio.

@@ -1,7 +1,8 @@
 -- One step of the planner, and what of its plan is then still to be measured.
 -- Assumes nothing.
-use Rattle.std.specs.Prelude.{Ok, Err, Option, Some, None}
+use Rattle.std.specs.Prelude.{Result, Ok, Err, Option, Some, None, MatchResult, IsErrAnd, is_ok, false}
 use Rattle.std.proofs.Common.{◌≡◌, refl, sym, ap, subst, ◌∙◌, List, [], drop}
+use Rattle.std.proofs.lemmas.Bool.{false≢true}
 use Rattle.plan.specs.declared.types.Entry.{Entry}
 use Rattle.plan.specs.Steps.{Coming}
 use Rattle.plan.specs.Demand.{aheads}
@@ -54,3 +55,14 @@ module _ (p : Planner) (s : Step) (i : StepGives p s) where
         by : (g : Given) → s.given ≡ g → drifts_from r place (coming p).entries ≡ []
         by (Ok e) k = absurd (n e k)
         by (Err x) k = end_over x k
+
+-- where each end is told as `Over`: the entry is the step's, and none is given for an end
+pub entry_given : (g : Given) (r : Result Entry Over) (P : Stop → Over → Type 0) (e : Entry) → MatchResult g (λ x. r ≡ Ok x) (λ x. IsErrAnd r (P x)) → r ≡ Ok e → g ≡ Ok e
+entry_given (Ok x) r P e h k =
+    let i : ◌≡◌ {A = Result Entry Over} (Ok x) (Ok e) = sym h ∙ k in
+    let same : x ≡ e = cc in
+    ap Ok same
+entry_given (Err x) r P e h k = absurd (rw k at h)
+
+pub not_given : (g : Given) → is_ok g ≡ false → (e : Entry) → g ≡ Ok e → ⊥
+not_given g n e k = false≢true (sym n ∙ ap is_ok k)

@@ -7,7 +7,7 @@
 // A call with another number of words in `request` or `told` answers 1 and changes nothing. `drift` may have any length: it takes the plan's first rectangles, and its words beyond them are left alone.
 #![tactic(auto)]
 
-ghost use Rattle.std.specs.Prelude.{◌≡◌, cond, [], ◌∷◌, ◌≤◌, length};
+ghost use Rattle.std.specs.Prelude.{◌≡◌};
 ghost use Rattle.planner.specs.Coming.{coming};
 ghost use Rattle.request.specs.Host.{with_bytes};
 ghost use Rattle.small.specs.Small.{AllSmall};
@@ -19,8 +19,6 @@ use request::Request;
 use ruler::{Begun, Over, Place, Ruler};
 use signed::word_of;
 use words::put;
-
-const TOLD: usize = 2;
 
 // A step of the planner: what was measured of its entry, if it is a rectangle, and the planner after it; or no rectangle is to come.
 pub(crate) type Moved = Result<(Option<(Begun, Place)>, Planner), Over>;
@@ -38,9 +36,7 @@ fn step(r: Ruler, place: Place, p: Planner) -> Moved
     ensures { MovedIs r place p result }
 {
     let s = p.step();
-    let Ok(entry) = s.given else {
-        return Err(Over);
-    };
+    let entry = s.given.map_err(|_| Over)?;
     let measured = ruler::taken(r, place, entry)?;
     Ok((measured, s.planner))
 }
@@ -59,7 +55,7 @@ fn fill(r: Ruler, start: Planner, drift: &mut [u64]) -> usize
         };
         if let Some((b, next)) = measured {
             let words = words_of(r, b);
-            put(&mut *drift, n * 5, &words);
+            put(drift, n * 5, &words);
             n += 1;
             place = next;
         }
@@ -75,7 +71,7 @@ fn measured(object: &[u8], q: Request, drift: &mut [u64]) -> [u64; 2]
     match ruler::ruler_of(object, q) {
         Some(r) => {
             let p = starts::fresh(object, q);
-            let n = fill(r, p, &mut *drift);
+            let n = fill(r, p, drift);
             let apt = u64::from(ruler::apt(r));
             [n as u64, apt]
         }
@@ -90,9 +86,9 @@ pub fn visor_drift(object: &[u8], request: &[u64], drift: &mut [u64], told: &mut
     let Ok(q) = Request::try_from(request) else {
         return 1;
     };
-    if told.len() != TOLD {
+    let Some(told) = told.as_mut_array() else {
         return 1;
-    }
-    told.copy_from_slice(&measured(object, q, &mut *drift));
+    };
+    *told = measured(object, q, drift);
     0
 }

@@ -1,7 +1,8 @@
--- Laws of big-endian reads: one byte more, the bound by the bytes' number, and room for one more byte.
+-- Laws of big-endian reads: one byte more, the bound by the bytes' number, the first bytes alone, and room for one more byte.
 -- Assumes nothing.
-use Rattle.std.specs.Prelude.{◌≡◌, Bool, true, false, cond, List, ℕ, zero, suc, ◌+◌, ◌*◌, ◌^◌, ◌≤◌, ◌<◌, get_or}
+use Rattle.std.specs.Prelude.{◌≡◌, refl, Bool, true, false, cond, List, ℕ, zero, suc, ◌+◌, ◌*◌, ◌^◌, ◌≤◌, ◌<◌, take, get_or}
 use Rattle.std.proofs.Common.{add-one, pow-suc, arith, lit<}
+use Rattle.std.proofs.lemmas.List.{get_or-take}
 use Rattle.std.proofs.Math.Nat.{pow-le-pow_right}
 use Rattle.object.specs.Layout.{read, size_of, Bytes, ReadIs}
 
@@ -18,6 +19,12 @@ pub read_below : (bs : List ℕ) (at n : ℕ) → Bytes bs → read bs at n < 25
 unfolding read
 read_below bs at zero h = lit< tt
 read_below bs at (suc n) h = omega (arith, read_below bs at n h, h (at + n), pow-suc 256 n)
+
+-- a number within the first k bytes is theirs
+pub read_first : (bs : List ℕ) (k at n : ℕ) → at + n ≤ k → read (take k bs) at n ≡ read bs at n
+unfolding read
+read_first bs k at zero h = refl
+read_first bs k at (suc n) h = rw (read_first bs k at n (omega arith), get_or-take k bs (at + n) 0 (omega arith))
 
 -- a number of fewer than eight bytes leaves room for one more
 pub room : (n r : ℕ) → n < 8 → r < 256 ^ n → r < 256 ^ 7

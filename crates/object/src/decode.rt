@@ -1,8 +1,8 @@
 // The object's fields out of its bytes, for pointers of up to 8 bytes: what stands after the pointer moves with its width, which is a number of the field table and no const parameter, so that one decoder serves every width.
-ghost use Rattle.std.specs.Prelude.{◌≡◌, cond, ◌+◌, ◌≤◌, ◌<◌, ◌^◌, max, pos, length};
-ghost use Rattle.std.specs.Int.{w16, w32};
+ghost use Rattle.std.specs.Prelude.{◌≡◌, cond, ◌+◌, ◌≤◌, ◌<◌, max, pos, length};
+ghost use Rattle.std.specs.Int.{w32};
 ghost use Rattle.std.proofs.Common.{to_z};
-ghost use Rattle.measures.specs.Measure.{in_quarters, in_thirty_seconds, in_scale};
+ghost use Rattle.measures.specs.Measure.{in_thirty_seconds, in_scale};
 ghost use Rattle.object.specs.Layout.{read, size_of, decode, decoded_of};
 
 use crate::reader::field_from;
@@ -111,8 +111,5 @@ pub fn decode_obj_bg(object: &[u8], pointer: usize, copy: bool) -> Option<ObjBg>
     requires { pointer ≤ 8 }
     ensures { result ≡ decoded_of pointer copy object.now }
 {
-    if object.len() < size(pointer, copy) {
-        return None;
-    }
-    Some(fields(object, pointer, copy))
+    (size(pointer, copy) <= object.len()).then(|| fields(object, pointer, copy))
 }

@@ -7,4 +7,4 @@ mod types;
 
 pub use decode::{byte, decode_obj_bg, half, word};
 pub use reader::{Reader, field_from};
-pub use types::{Background, ObjBg, Scissor, Verdict};
+pub use types::{Background, OBJECT_BYTES, ObjBg, Scissor, Verdict};

@@ -1,5 +1,10 @@
 // The object's fields, the scissor, and the verdicts.
+ghost use Rattle.std.specs.Prelude.{◌≡◌, ◌%◌, eqb};
+
 use measures::{Quarters, Scale, ThirtySeconds};
+
+// The bytes of an object of a copy background, the longer kind, with a pointer of 4 bytes.
+pub const OBJECT_BYTES: usize = 40;
 
 // A decoded background; fields outside its kind are 0.
 // What the checks leave of it stands in clauses: `PassedCopy` and `PassedScaled` speak of the scissor too, and `Usable` is a part of the second. A type for a checked background would hold the scissor, and be taken apart at every call. A field may have any value before the checks.
@@ -28,6 +33,15 @@ pub struct ObjBg {
     pub scale_w: Scale,
     pub scale_h: Scale,
     pub image_y_orig: ThirtySeconds,
+}
+
+impl ObjBg {
+    // The image is shown from right to left: the Rust tests the lowest bit alone, and a scaled background's other bits may be set.
+    pub fn flipped(self) -> bool
+        ensures { result ≡ eqb (self.image_flip % 2) 1 }
+    {
+        self.image_flip % 2 == 1
+    }
 }
 
 // The scissor's edges, in whole pixels.

@@ -106,19 +106,19 @@ pub fn scaled_next(stage: Stage, p: Place) -> ScaledNext
             return Ok((tile0(p.scaled), Ok((Stage::Size, p))));
         }
         Stage::Whole => {
-            let entry = image(p.scaled, p.walk.source.pointer);
-            return Ok((entry, Ok((Stage::WholeLoad, p))));
+            return Ok((
+                image(p.scaled, p.walk.source.pointer),
+                Ok((Stage::WholeLoad, p)),
+            ));
         }
         Stage::WholeLoad => {
             return whole_step(p);
         }
         Stage::Tile => {
-            let entry = tile7(p.scaled, p.part.destination);
-            return Ok((entry, Ok((Stage::Image, p))));
+            return Ok((tile7(p.scaled, p.part.destination), Ok((Stage::Image, p))));
         }
         Stage::Image => {
-            let entry = image(p.scaled, p.part.pointer);
-            return Ok((entry, Ok((Stage::Load, p))));
+            return Ok((image(p.scaled, p.part.pointer), Ok((Stage::Load, p))));
         }
         Stage::Load => Turn::Load,
         Stage::Last => Turn::Last,
@@ -128,7 +128,7 @@ pub fn scaled_next(stage: Stage, p: Place) -> ScaledNext
     turn_step(turn, p)
 }
 
-// Where a scaled plan starts: its first address sum may be refused.
+// Where a scaled plan starts: its first address sum may be refused. Written out in full: a default would name the same numbers in another place.
 pub fn scaled_start(z: Scaled, c: Clip, f: First) -> Reached
     requires sound_scaled { SoundScaled z }
     requires sound_first { (SoundFirst z f) × ClipIn c }

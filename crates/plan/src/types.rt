@@ -69,7 +69,7 @@ pub struct End {
 pub type Answer = Result<Entry, End>;
 
 // The facts on these numbers (`SoundCopy`, `SoundScaled`, `Filled`) stand in clauses and not in the types. An empty frame and strips that verdict 6 refuses do not meet them, and are made before they are tested;
-// and the definitions make such records of any request, so that a model's value would be each record once more.
+// and the definitions make such records of any request, so that a type with these facts would need a second record for each.
 
 // What no strip of a copy plan changes; widths, heights, columns and rows count cells of 4 quarters.
 #[derive(Clone, Copy)]

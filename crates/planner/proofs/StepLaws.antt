@@ -1,7 +1,7 @@
 -- From one step of a course to one step of the planner: the counts and the bank go with the entry.
 -- Assumes nothing.
-use Rattle.std.specs.Prelude.{◌≡◌, refl, Ok, Err, Option, IfSome, List, [], ◌∷◌, ℕ, suc, ◌≤◌, ◌<◌, length, drop}
-use Rattle.std.proofs.Math.Path.{sym, ap}
+use Rattle.std.specs.Prelude.{◌≡◌, refl, Result, Ok, Err, Option, Some, None, IfSome, MatchOption, List, [], ◌∷◌, ℕ, suc, ◌≤◌, ◌<◌, length, drop}
+use Rattle.std.proofs.Math.Path.{sym, ap, subst}
 use Rattle.std.proofs.Common.{◌∙◌}
 use Rattle.std.specs.Option.{option_to_list}
 use native.Mathlib.Omega.{arith}
@@ -11,20 +11,20 @@ use Rattle.tile.specs.declared.bank.Bank.{Bank}
 use Rattle.plan.specs.declared.types.Entry.{Entry}
 use Rattle.plan.specs.declared.types.End.{End}
 use Rattle.plan.specs.Out.{Plan}
-use Rattle.plan.specs.Next.{cons, ended}
+use Rattle.plan.specs.Next.{cons, ended, Follows}
 use Rattle.plan.specs.Sound.{EntryIn, Narrow}
 use Rattle.plan.specs.Run.{bank_step, bank_after}
 use Rattle.plan.specs.Steps.{Coming, next_of, answer_of, bank_next}
 use Rattle.copy.specs.declared.types.Stage.{Stage}
 use Rattle.copy.specs.declared.types.Place.{Place}
 use Rattle.copy.specs.declared.types.CopyEnd.TheVariants as copied
-use Rattle.copy.specs.Walk as walk
-use Rattle.copy.specs.Walk.{copy_next_of}
-use Rattle.copy.specs.Small.{next_in}
-use Rattle.copy.specs.Coming.{coming_copy, copy_follows}
-use Rattle.copy.specs.Kept.{left_copy, copy_kept}
+use Rattle.copy.specs.Walk.{CopyStep, copy_next_of, as_next}
+use Rattle.copy.specs.Small.{NextIn, next_in}
+use Rattle.copy.specs.Coming.{coming_copy, coming_walk, copy_follows}
+use Rattle.copy.specs.Kept.{left_copy, Kept, copy_kept}
 use Rattle.loads.specs.declared.types.Stage as scaled
 use Rattle.loads.specs.declared.types.Place as scaled_place
+use Rattle.loads.specs.declared.types.Refused.{Refused}
 use Rattle.loads.specs.Coming.{Reached, coming_scaled, coming_reached}
 use Rattle.loads.specs.Sound.{SoundReached, left_at, left_reached, Gave}
 use Rattle.words.specs.declared.count.Counts.{Counts}
@@ -101,6 +101,10 @@ module _ (w : Course) (n : Counts) (v : Verdict) (size : Option Entry) (i : comi
         sound = record { course = tt; counts = h.counts; few = omega arith };
       }
 
+-- after the end it is the same end
+pub step_over : {p : Planner} {w : Course} {n : Counts} {v : Verdict} {r : Step} → Sound (planner_at w n) → planner_at w n ≡ p → w ≡ course.Over v → r ≡ stop_of n v None → StepGives p r
+step_over {p} {w} {n} {v} {r} h i j k = subst (λ (p : Planner). StepGives p r) i (rw (j, k) (step_stopped (course.Over v) n v None refl tt (rw j at h)))
+
 -- where no entry is to come, the end has the counts so far
 pub counts_at_end : (p : Planner) → (coming p).entries ≡ [] → (coming p).end ≡ end_with p.counts (coming p).end.verdict
 unfolding coming counted_all
@@ -108,23 +112,21 @@ counts_at_end p none = ap (λ (es : List Entry). end_with (counted_all p.counts 
 
 -- ---- copy
 
-module _ (s : Stage) (p : Place) (h : walk.SoundAt s p) where
-  -- what the walk answers, by its constructor
-  pub copy_given : (e : Entry) (s' : Stage) (p' : Place) → copy_next_of s p ≡ Ok (e, s', p')
-      → (coming_copy s p ≡ cons e (coming_copy s' p')) × (EntryIn e × (walk.SoundAt s' p' × (suc (left_copy s' p') ≤ left_copy s p)))
-  copy_given e s' p' i =
-      let f = rw i at (copy_follows s p h) in
-      let k = rw i at (copy_kept s p h) in
-      (f, (rw i at (next_in s p h), (k.sound, k.less)))
+-- the step that an answer of the walk makes
+abbrev pub copy_step_of : Counts → CopyStep → Step
+copy_step_of n (Ok q) = give_of (course.Copy q.1 q.2) n q.0
+copy_step_of n (Err copied.TooBig) = stop_of n verdict.TooBig None
+copy_step_of n (Err (copied.Overflow e)) = stop_of n verdict.Address (Some e)
+copy_step_of n (Err copied.Finished) = stop_of n verdict.Finished None
 
-  pub copy_too_big : copy_next_of s p ≡ Err copied.TooBig → coming_copy s p ≡ ended [] verdict.TooBig
-  copy_too_big i = rw i at (copy_follows s p h)
-
-  pub copy_overflow : (e : Entry) → copy_next_of s p ≡ Err (copied.Overflow e) → (coming_copy s p ≡ ended (e ∷ []) verdict.Address) × Narrow e
-  copy_overflow e i = (rw i at (copy_follows s p h), rw i at (next_in s p h))
-
-  pub copy_finished : copy_next_of s p ≡ Err copied.Finished → coming_copy s p ≡ ended [] verdict.Finished
-  copy_finished i = rw i at (copy_follows s p h)
+pub step_copy : {s : Stage} {p : Place} {n : Counts} {r : CopyStep} → r ≡ copy_next_of s p → Sound (planner_at (course.Copy s p) n) → StepGives (planner_at (course.Copy s p) n) (copy_step_of n r)
+step_copy {s} {p} {n} {r} i h = by r (rw (← i) at (copy_follows s p h.course)) (rw (← i) at (copy_kept s p h.course)) (rw (← i) at (next_in s p h.course))
+  where
+    by : (r : CopyStep) → Follows coming_walk (coming_copy s p) (as_next r) → Kept (left_copy s p) (as_next r) → NextIn r → StepGives (planner_at (course.Copy s p) n) (copy_step_of n r)
+    by (Ok q) f k t = step_given (course.Copy s p) (course.Copy q.1 q.2) n q.0 f t k.sound k.less h
+    by (Err copied.TooBig) f k t = step_stopped (course.Copy s p) n verdict.TooBig None f tt h
+    by (Err (copied.Overflow e)) f k t = step_stopped (course.Copy s p) n verdict.Address (Some e) f t h
+    by (Err copied.Finished) f k t = step_stopped (course.Copy s p) n verdict.Finished None f tt h
 
 -- ---- scaled
 
@@ -141,10 +143,18 @@ reached_left : (r : Reached) (n : ℕ) → suc (left_reached r) ≤ n → suc (l
 reached_left (Ok q) n h = h
 reached_left (Err v) n h = h
 
-pub step_scaled : (s : scaled.Stage) (p : scaled_place.Place) (n : Counts) (e : Entry) (r : Reached) → Gave (coming_scaled s p) (left_at s p) (Ok (e, r)) → Sound (planner_at (course.Scaled s p) n)
-    → StepGives (planner_at (course.Scaled s p) n) (give_of (course_of r) n e)
-step_scaled s p n e r g h =
-    step_given (course.Scaled s p) (course_of r) n e (g.0 ∙ ap (cons e) (sym (reached_is r))) g.1.1.1 (reached_sound r g.1.0) (reached_left r (left_at s p) g.1.1.0) h
+-- the step that an answer of the walk makes
+abbrev pub scaled_step_of : Counts → Result (Entry × Reached) Refused → Step
+scaled_step_of n (Ok q) = give_of (course_of q.1) n q.0
+scaled_step_of n (Err r) = stop_of n verdict.Address (Some r.0)
+
+pub step_scaled : {s : scaled.Stage} {p : scaled_place.Place} {n : Counts} {r r' : Result (Entry × Reached) Refused} → Gave (coming_scaled s p) (left_at s p) r → r ≡ r' → Sound (planner_at (course.Scaled s p) n)
+    → StepGives (planner_at (course.Scaled s p) n) (scaled_step_of n r')
+step_scaled {s} {p} {n} {r} {r'} g i h = by r' (rw i at g)
+  where
+    by : (r : Result (Entry × Reached) Refused) → Gave (coming_scaled s p) (left_at s p) r → StepGives (planner_at (course.Scaled s p) n) (scaled_step_of n r)
+    by (Ok q) g = step_given (course.Scaled s p) (course_of q.1) n q.0 (g.0 ∙ ap (cons q.0) (sym (reached_is q.1))) g.1.1.1 (reached_sound q.1 g.1.0) (reached_left q.1 (left_at s p) g.1.1.0) h
+    by (Err x) g = step_stopped (course.Scaled s p) n verdict.Address (Some x.0) g.0 g.1 h
 
 -- ---- what a step gives says of what is to come
 
@@ -155,6 +165,12 @@ came (y ∷ es) x e i = let k : y ≡ e = cc in ap (λ (d : Entry). d ∷ es) k
 pub ended_there : (es : List Entry) (x e : End) → answer_of es x ≡ Err e → (es ≡ []) × (e ≡ x)
 ended_there [] x e i = let k : x ≡ e = cc in (refl, sym k)
 ended_there (y ∷ es) x e i = let z : ◌≡◌ {A = ℕ} 0 1 = cc in absurd (omega arith)
+
+-- the bank with the size that a refused load has set, where P says what is known of a size that is set
+sized : (b b' : Bank) (P : Entry → Type 0) (size : Option Entry) → ((e : Entry) → P e → b' ≡ bank_step b e) → MatchOption size (b' ≡ b) P → b' ≡ bank_after b (option_to_list size)
+unfolding bank_after
+sized b b' P (Some e) k j = k e j
+sized b b' P None k j = j
 
 module _ (p : Planner) (s : Step) (i : StepGives p s) where
   pub gave_entry : (e : Entry) → s.given ≡ Ok e → (coming p).entries ≡ e ∷ drop 1 (coming p).entries
@@ -188,13 +204,13 @@ module _ (p : Planner) (s : Step) (i : StepGives p s) where
         sound = i.sound;
       }
 
-  pub with_end : (b : Bank) (x : Stop) → s.given ≡ Err x → (b' : Bank) → b' ≡ bank_after b (left_in (Err x)) → StepIs p b (record { planner = s.planner; bank = b'; answer = Err x.end })
-  with_end b x g b' j =
+  pub with_end : (b : Bank) (x : Stop) → s.given ≡ Err x → (b' : Bank) (P : Entry → Type 0) → ((e : Entry) → P e → b' ≡ bank_step b e) → MatchOption x.size (b' ≡ b) P → StepIs p b (record { planner = s.planner; bank = b'; answer = Err x.end })
+  with_end b x g b' P k j =
       let t = gave_end x g in
       record {
         answer = sym (ap answer_in g) ∙ i.answer;
         rest = i.rest;
-        bank = j ∙ ap (bank_after b) (sym t.1.1) ∙ ap (λ (es : List Entry). bank_next es (coming p).left b) (sym t.0);
+        bank = sized b b' P x.size k j ∙ ap (bank_after b) (sym t.1.1) ∙ ap (λ (es : List Entry). bank_next es (coming p).left b) (sym t.0);
         counts = i.counts;
         sound = i.sound;
       }

@@ -67,8 +67,7 @@ impl Planner {
     pub fn step(self) -> Step
         ensures { StepGives self result }
     {
-        let course = self.course;
-        match course {
+        match self.course {
             Course::Copy(stage, place) => copy_step(stage, place, self.counts),
             Course::Scaled(stage, place) => scaled_step(stage, place, self.counts),
             Course::Over(v) => stop(self.counts, v, None),
@@ -79,28 +78,18 @@ impl Planner {
     pub fn step_with(self, bank: Bank) -> Stepped
         ensures { StepIs self bank result }
     {
-        let s = self.step();
-        let planner = s.planner;
-        match s.given {
-            Ok(entry) => {
-                let after = words::bank_after(bank, entry);
-                Stepped {
-                    planner,
-                    bank: after,
-                    answer: Ok(entry),
-                }
-            }
-            Err(stop) => {
-                let sized = match stop.size {
-                    Some(size) => words::bank_after(bank, size),
-                    None => bank,
-                };
-                Stepped {
-                    planner,
-                    bank: sized,
-                    answer: Err(stop.end),
-                }
-            }
+        let Step { planner, given } = self.step();
+        match given {
+            Ok(entry) => Stepped {
+                planner,
+                bank: words::bank_after(bank, entry),
+                answer: Ok(entry),
+            },
+            Err(stop) => Stepped {
+                planner,
+                bank: stop.size.map_or(bank, |size| words::bank_after(bank, size)),
+                answer: Err(stop.end),
+            },
         }
     }
 }

@@ -1,12 +1,15 @@
 -- Steps one after another: what is answered and what is to come make up all that the steps answer; and what a run has written before them.
 -- Assumes nothing.
 use mathlib.Core.Path.{◌≡◌, refl, sym, ap, subst, ◌∙◌}
+use mathlib.Core.Bool.{Bool, true, false}
 use mathlib.Core.List.{List, [], ◌∷◌, ◌++◌, append_assoc, append-nil}
-use Rattle.std.specs.Prelude.{Option, Some, None, Ok, Err}
+use Rattle.std.specs.Prelude.{Option, Some, None, Ok, Err, is_some, is_err, IfSome}
+use Rattle.std.specs.Int.{from_bool}
 use Prim.Native.Nat.{ℕ, zero, suc, ◌+◌, ◌-◌, ◌/◌, ◌<◌, ◌≤◌}
 use native.Mathlib.Numerals.{add-one}
 use native.Mathlib.Omega.{arith}
-use borrow.Author.Tests.{lt-ltb, le-ltb}
+use borrow.Author.Tests.{lt-ltb}
+use lib.Dec.{ltb}
 use lib.ListN.{length, take, drop, get_or}
 use lib.Seq.{take-suc, drop-cons, length-take-le}
 use Rattle.object.specs.declared.types.Verdict.TheVariants as verdict
@@ -58,6 +61,12 @@ pub record Under (k : Coming) (b : Bank) (h : ℕ) (p : Planner) (c : Bank) (g e
 pub under_start : (p : Planner) (b : Bank) (h : ℕ) → Under (coming p) b h p b h 0
 under_start p b h = record { few = omega arith; none = λ l. absurd (omega arith); answered = refl; banked = refl }
 
+-- an end is an `Err`
+pub end_is : (a : Answer) → from_bool (is_err a) ≡ ends_in a
+unfolding ends_in
+end_is (Ok e) = refl
+end_is (Err e) = refl
+
 -- one step, in terms of what was to come
 record Next (es left : List Entry) (e : End) (b : Bank) (ends after : ℕ) : Type 0 where
   few : after ≤ 4
@@ -97,9 +106,6 @@ module _ (k : Coming) (b : Bank) (h : ℕ) (p : Planner) (c : Bank) (g ends : �
             (sym (digest_append (answer_words (answer_of (coming p).entries (coming p).end)) _ g) ∙ ap (digest_from g) (sym next.answered) ∙ u.answered);
         banked = rw (i.rest, i.bank) (sym next.banked ∙ u.banked);
       }
-
-  pub under_less : length (coming s.planner).entries + (4 - after) < length (coming p).entries + (4 - ends)
-  under_less = rw i.rest next.less
 
 -- four ends are answered
 module _ (k : Coming) (b : Bank) (h : ℕ) (p : Planner) (c : Bank) (g ends : ℕ) (u : Under k b h p c g ends) (all : 4 ≤ ends) where
@@ -204,10 +210,11 @@ module _ (p : Plan) (room chunk : ℕ) (b : Bank) (run : Outcome) (end : End) (s
   unfolding replayed_of
   all_is d i = λ j. record { run = r j; end = e j; steps = s j; mixed = i j }
 
-  pub replayed_cut : chunk / 11 < end.entries → (d : Digests) → d ≡ stepped_of p b → record { run = run; end = end; steps = steps; mixed = Some d } ≡ replayed_of p room chunk b
-  unfolding mixed_of
-  replayed_cut h d i = all_is (Some d) (ap Some i ∙ rw (lt-ltb (chunk / 11) (length p.entries) (omega (arith, entries_are p end e))))
+  test_is : (t : Bool) → t ≡ ltb (chunk / 11) end.entries → ltb (chunk / 11) (length p.entries) ≡ t
+  test_is t h = ap (ltb (chunk / 11)) (sym (entries_are p end e)) ∙ sym h
 
-  pub replayed_whole : end.entries ≤ chunk / 11 → record { run = run; end = end; steps = steps; mixed = None } ≡ replayed_of p room chunk b
+  -- steps are mixed with a run where the plan is longer than the chunk
+  pub replayed : (d : Option Digests) → is_some d ≡ ltb (chunk / 11) end.entries → IfSome d (λ x. x ≡ stepped_of p b) → record { run = run; end = end; steps = steps; mixed = d } ≡ replayed_of p room chunk b
   unfolding mixed_of
-  replayed_whole h = all_is None (rw (le-ltb (chunk / 11) (length p.entries) (omega (arith, entries_are p end e))))
+  replayed (Some d) h i = all_is (Some d) (ap Some i ∙ rw (test_is true h))
+  replayed None h i = all_is None (rw (test_is false h))

@@ -1,5 +1,5 @@
 // The two files: a bank of 136 words, and records of 64 bytes.
-ghost use Rattle.std.specs.Prelude.{◌≡◌, ℕ, ◌%◌, min, length, take};
+ghost use Rattle.std.specs.Prelude.{◌≡◌, ℕ, ◌%◌, min, take};
 ghost use Rattle.object.specs.Layout.{Held, read};
 ghost use Rattle.plan.specs.Check.{request_at};
 ghost use Rattle.plan.specs.Whole.{plan_of};
@@ -9,8 +9,8 @@ ghost use Rattle.replay.specs.Outcome.{words_in};
 ghost use Rattle.replay.specs.Steps.{replayed_of};
 
 use crate::record::{Replayed, run_and_step};
-use object::field_from;
-use request::Request;
+use object::{OBJECT_BYTES, field_from};
+use request::{CASE_BYTES, Request};
 
 // A bank's words, eight bytes each, read by place as every field is: over chunks, the library's `from_be_bytes` would need a law to the definition `read`.
 pub(crate) fn bank_of(bytes: &[u8; 1088]) -> [u64; 136]
@@ -42,13 +42,13 @@ fn asked(bytes: &[u8; 64]) -> Request
 pub(crate) fn record_replayed(bytes: &[u8; 64], stored: [u64; 136]) -> Replayed
     ensures { result ≡ replayed_of (plan_of (request_at (min 40 (read bytes.now 61 1)) bytes.now)) (min 2816 (read bytes.now 62 2)) (min 2816 (read bytes.now 62 2) % 121) (bank_from stored) }
 {
-    let count = at_most(bytes, 61, 1, 40);
-    let room = at_most(bytes, 62, 2, 2816);
-    let short = room % 121;
-    let q = asked(bytes);
     // Room for every plan of the list, and for every chunk.
     let mut plan = [0; 2816];
     let mut part = [0; 121];
+    let count = at_most(bytes, CASE_BYTES, 1, OBJECT_BYTES);
+    let room = at_most(bytes, CASE_BYTES + 1, 2, plan.len());
+    let short = room % part.len();
+    let q = asked(bytes);
     run_and_step(
         &bytes[..count],
         q,

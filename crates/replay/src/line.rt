@@ -1,4 +1,5 @@
 // The line of a record: numbers in decimal, digests as 16 hexadecimal digits.
+use crate::outcome::Outcome;
 use crate::record::Replayed;
 use crate::steps::Digests;
 use plan::End;
@@ -10,11 +11,7 @@ struct Numbers(End);
 
 impl fmt::Display for Numbers {
     fn fmt<W: fmt::Write>(&self, f: &mut fmt::Formatter<W>) -> fmt::Result {
-        let end = self.0;
-        let verdict = checks::number(end.verdict);
-        let entries = end.entries;
-        let rectangles = end.rectangles;
-        let words = end.words;
+        let [verdict, entries, rectangles, words] = giving::end_numbers(self.0);
         write!(f, "{verdict} {entries} {rectangles} {words}")
     }
 }
@@ -27,17 +24,21 @@ impl fmt::Display for Digests {
     }
 }
 
+impl fmt::Display for Outcome {
+    fn fmt<W: fmt::Write>(&self, f: &mut fmt::Formatter<W>) -> fmt::Result {
+        let end = Numbers(self.end);
+        let entries = self.entries;
+        let bank = self.bank;
+        write!(f, "{end} {entries:016x} {bank:016x}")
+    }
+}
+
 impl fmt::Display for Replayed {
     fn fmt<W: fmt::Write>(&self, f: &mut fmt::Formatter<W>) -> fmt::Result {
         let run = self.run;
-        let run_end = Numbers(run.end);
-        let run_digests = Digests {
-            answers: run.entries,
-            bank: run.bank,
-        };
         let end = Numbers(self.end);
         let steps = self.steps;
-        write!(f, "{run_end} {run_digests} {end} {steps}")?;
+        write!(f, "{run} {end} {steps}")?;
         match self.mixed {
             Some(mixed) => write!(f, " {mixed}"),
             None => Ok(()),

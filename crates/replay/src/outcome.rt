@@ -24,6 +24,6 @@ pub(crate) fn run_into(object: &[u8], q: Request, bank: &mut [u64], plan: &mut [
     let end = runs::run(object, q, bank, plan);
     let n = 11 * end.entries as usize;
     let entries = digest(&plan[..n]);
-    let bank = digest(&*bank);
+    let bank = digest(bank);
     Outcome { end, entries, bank }
 }

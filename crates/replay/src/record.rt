@@ -34,11 +34,8 @@ pub(crate) fn run_and_step(
     let run = run_into(object, q, &mut words, plan);
     let end = runs::count(object, q);
     let steps = stepped(object, q, bank);
-    let mixed = if ((chunk.len() / 11) as u64) < end.entries {
-        Some(mixed(object, q, &stored, chunk))
-    } else {
-        None
-    };
+    let longer = ((chunk.len() / 11) as u64) < end.entries;
+    let mixed = longer.then(|| mixed(object, q, &stored, chunk));
     Replayed {
         run,
         end,

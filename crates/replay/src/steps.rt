@@ -49,9 +49,7 @@ fn steps_from(start: Planner, bank: Bank, before: u64) -> Digests
         let s = p.step_with(b);
         let answer = s.answer;
         answers = answer_into(answers, answer);
-        if let Err(_) = answer {
-            ends += 1;
-        }
+        ends += u64::from(answer.is_err());
         p = s.planner;
         b = s.bank;
     }

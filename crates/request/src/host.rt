@@ -1,5 +1,5 @@
 // A host's request: opcode, four edges, render mode, address, a word each.
-ghost use Rattle.std.specs.Prelude.{◌≡◌, ◌%◌, ◌^◌, length};
+ghost use Rattle.std.specs.Prelude.{◌≡◌, ◌%◌, ◌^◌};
 ghost use Rattle.request.specs.Host.{opcode_kept, edge_kept, KeptIs, HostIs};
 
 use crate::types::Request;
@@ -13,20 +13,21 @@ fn opcode(n: u64) -> u8
     u8::try_from(n).unwrap_or(0)
 }
 
-// No edge lies above 1023, and −1 is none.
+// No edge lies above 1023, and −1 is none. By a comparison, as the definition cuts at 1,024 and `try_from` would cut at 2^31.
 fn edge(n: u64) -> i32
     ensures { result ≡ edge_kept n }
 {
     if n < 1024 { n as i32 } else { -1 }
 }
 
+// The mode is a word's low 32 bits, by a remainder: a cast must not lose bits.
 fn mode(n: u64) -> u32
     ensures { result ≡ n % 2 ^ 32 }
 {
     (n % 0x1_0000_0000) as u32
 }
 
-// Numbers that this cuts are refused either way, so the plan is that of the words as they stand. Named by its source, as `from_be_bytes` is: a case's bytes make a request too.
+// An opcode or an edge that this cuts is refused either way, so the plan is that of the words as they stand. Named by its source, as `from_be_bytes` is: a case's bytes make a request too.
 pub fn from_words(words: &[u64; 7]) -> Request
     ensures { KeptIs words.now result }
 {

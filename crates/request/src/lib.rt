@@ -6,5 +6,5 @@ mod stored;
 mod types;
 
 pub use host::from_words;
-pub use stored::from_bytes;
+pub use stored::{CASE_BYTES, from_bytes};
 pub use types::Request;

@@ -11,6 +11,7 @@ use Rattle.measures.specs.Measure.{quarters, in_image, whole_texels, lines_at, o
 use Rattle.measures.specs.Range.{Below, Within}
 use Rattle.object.specs.declared.types.ObjBg.{ObjBg}
 use Rattle.object.specs.declared.types.Scissor.{Scissor}
+use Rattle.object.specs.declared.types.Background.{Background}
 use Rattle.object.specs.declared.types.Background.TheVariants as background
 use Rattle.object.specs.declared.types.Verdict.{Verdict}
 use Rattle.object.specs.declared.types.Verdict.TheVariants as verdict
@@ -146,9 +147,10 @@ drifts_none q e = rw e (by (eqb q.opcode 9))
     by true = refl
     by false = refl
 
-pub nothing_refused : (q : Request) (v : Verdict) → checked_of 4 q.bytes q.opcode q.scissor ≡ Err v → FoundIs q None
+pub nothing_refused : (q : Request) (r : Result Background Verdict) → checked_of 4 q.bytes q.opcode q.scissor ≡ r → result_ok r ≡ None → FoundIs q None
 unfolding set_up plan_of plan_with checked_out
-nothing_refused q v e = (rw e, drifts_none q (rw e))
+nothing_refused q (Err v) e n = (rw e, drifts_none q (rw e))
+nothing_refused q (Ok b) e n = cc
 
 no_copy : (a b c : Bool) (bg bg' : ObjBg) → refused_by a verdict.Short (refused_by b verdict.Scissor (refused_by c verdict.Object (Ok (background.Scaled bg)))) ≡ Ok (background.Copy bg') → ⊥
 no_copy true b c bg bg' e = let z : ◌≡◌ {A = ℕ} 0 1 = cc in omega arith

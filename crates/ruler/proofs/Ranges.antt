@@ -1,6 +1,6 @@
 -- No sum of a measure overflows.
 -- Assumes nothing.
-use Rattle.std.proofs.Common.{◌≡◌, refl, ◌∙◌, Bool, true, false, cond, ℕ, suc, ◌+◌, ◌-◌, ◌*◌, ◌≤◌, ◌^◌, arith, mul-le-mul, mul-le-mul_right, div-mul-le_self, lit<, SFits, to_z, of_z, ℤ, pos, negsuc, ◌+ℤ◌, ◌-ℤ◌, ◌*ℤ◌}
+use Rattle.std.proofs.Common.{◌≡◌, refl, ◌∙◌, Bool, true, false, cond, ℕ, suc, ◌+◌, ◌-◌, ◌*◌, ◌≤◌, ◌^◌, arith, mul-le-mul, mul-le-mul_right, div-mul-le_self, lit<, SFits, to_z, of_z, ℤ, pos, negsuc, neg_ℤ, ◌+ℤ◌, ◌-ℤ◌, ◌*ℤ◌, ◌≤ℤ◌}
 use Rattle.std.specs.Int.{w64}
 use Rattle.std.specs.Int.Signed.{le_z}
 use Rattle.signed.specs.Word.{rd}
@@ -63,8 +63,11 @@ strip_top rows slice n r l w =
 pub top_in : {r : Ruler} {k : ℤ} → SoundRuler r → StripOf r k → Within 46 (pos r.image_rows *ℤ k)
 top_in {r} s t = rw t.at (strip_top r.image_rows r.slice t.since s.image_rows t.few s.top)
 
+pub top_rows_in : {r : Ruler} {k : ℤ} → SoundRuler r → StripOf r k → Within 47 (pos r.image_rows *ℤ k +ℤ whole_rows r.origin)
+top_rows_in {r} s t = sum_in _ _ (top_in s t) (origin_rows r.origin s.origin)
+
 pub rows_in : {r : Ruler} {k : ℤ} → SoundRuler r → StripOf r k → Within 48 (pos r.image_rows *ℤ k +ℤ whole_rows r.origin +ℤ pos r.carry +ℤ cond (le_z k r.slice) r.first_rows (pos 0))
-rows_in {r} {k} s t = rows_sum _ _ r.carry (sum_in _ _ (top_in s t) (origin_rows r.origin s.origin)) s.carry (chosen (le_z k r.slice) r.first_rows s.first_rows)
+rows_in {r} {k} s t = rows_sum _ _ r.carry (top_rows_in s t) s.carry (chosen (le_z k r.slice) r.first_rows s.first_rows)
 
 pub wide_fits : {n : ℕ} {z : ℤ} → 2 ^ n ≤ 2 ^ 62 → Within n z → SFits w64 z
 wide_fits {n} l w = omega (zarith, w.low, w.high, neg_is (pos (2 ^ n)))

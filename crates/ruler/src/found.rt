@@ -9,8 +9,8 @@ ghost use Rattle.ruler.specs.Drifts.{SoundPlace, place_of, apt_in, ruler_from, M
 use crate::types::{Place, Ruler};
 use measures::{Quarters, Scale, ThirtySeconds};
 use object::{Background, ObjBg};
-use plan::{Clip, First, Scaled, Start};
 use request::Request;
+use setup::SetUp;
 
 // Where the frame starts in the image: the clipped top is sampled.
 fn start_at(y: ThirtySeconds, top: Quarters, h: Scale) -> u64
@@ -28,15 +28,17 @@ fn rows_above(image_rows: u64, slice_rows: i64) -> i64
     image_rows as i64 - slice_rows
 }
 
-fn made(bg: ObjBg, c: Clip, i: Start, z: Scaled, f: First) -> Ruler
-    requires { MadeIn bg c i z f }
-    ensures { result ≡ ruler_from bg c i z f }
+fn made(bg: ObjBg, parts: SetUp) -> Ruler
+    requires { MadeIn bg parts.clip parts.start parts.scaled parts.first }
+    ensures { result ≡ ruler_from bg parts.clip parts.start parts.scaled parts.first }
 {
+    let z = parts.scaled;
+    let first = parts.first;
     let image_h = measures::quarters(bg.image_h);
-    let first_rows = rows_above(z.image_rows, f.slice_rows);
-    let count = signed::positive(f.count);
-    let lines = measures::texels(c.height);
-    let start = start_at(bg.image_y, c.top, z.scale_h);
+    let first_rows = rows_above(z.image_rows, first.slice_rows);
+    let count = signed::positive(first.count);
+    let lines = measures::texels(parts.clip.height);
+    let start = start_at(bg.image_y, parts.clip.top, z.scale_h);
     Ruler {
         h: z.scale_h.0,
         image_h,
@@ -44,8 +46,8 @@ fn made(bg: ObjBg, c: Clip, i: Start, z: Scaled, f: First) -> Ruler
         image_rows: z.image_rows,
         frame_rows: z.frame_rows,
         first_rows,
-        carry: i.carry,
-        slice: f.slice,
+        carry: parts.start.carry,
+        slice: first.slice,
         count,
         lines,
         start,
@@ -58,18 +60,17 @@ fn scaled_found(bg: ObjBg, q: Request) -> Option<Ruler>
     ensures { FoundScaled bg q.scissor q.mode q.address result }
 {
     let parts = setup::set_up(bg, q).ok()?;
-    Some(made(bg, parts.clip, parts.start, parts.scaled, parts.first))
+    Some(made(bg, parts))
 }
 
 // Nothing measures a plan that has no scaled rectangle to come.
 pub fn ruler_of(object: &[u8], q: Request) -> Option<Ruler>
     ensures { FoundIs (with_bytes object.now q) result }
 {
-    match checks::checked(object, q.opcode, q.scissor) {
-        Ok(Background::Scaled(bg)) => scaled_found(bg, q),
-        Ok(Background::Copy(_)) => None,
-        Err(_) => None,
-    }
+    let Background::Scaled(bg) = checks::checked(object, q.opcode, q.scissor).ok()? else {
+        return None;
+    };
+    scaled_found(bg, q)
 }
 
 // Before the first pass.

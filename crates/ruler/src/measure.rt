@@ -12,7 +12,21 @@ use crate::types::{Begun, Over, Place, Ruler, Taken};
 use measures::ThirtySeconds;
 use plan::Entry;
 
-// The limit behind.
+// The rows of strip `slice` above the start, which no later strip has.
+fn above(first_rows: i64, k: i64, slice: i64) -> i64
+    ensures { result ≡ cond (le_z k slice) first_rows (pos 0) }
+{
+    if k <= slice { first_rows } else { 0 }
+}
+
+fn sampled(row: u64, ult: i64) -> i64
+    requires { (row ≤ 65535) × Signed16 ult }
+    ensures { (result ≡ pos (1024 * row) +ℤ pos 32 *ℤ ult) × Within 32 result }
+{
+    (1024 * row) as i64 + 32 * ult
+}
+
+// The limit behind. This and the limit ahead are promised at any scale: as methods of a ruler they would ask for one.
 pub fn behind(h: u64) -> i64
     requires { h ≤ 65535 }
     ensures { result ≡ behind_of h }
@@ -28,51 +42,39 @@ pub fn ahead(h: u64, k: i64) -> i64
     signed::floor_div(h as i64 * (1024 + k), 1024)
 }
 
-// The image row at which a strip starts, whole images counted.
-fn top_row(image_rows: u64, k: i64, origin: i64) -> i64
-    requires { (image_rows ≤ 512) × (Within 46 (pos image_rows *ℤ k) × Within 31 origin) }
-    ensures { (result ≡ pos image_rows *ℤ k +ℤ whole_rows origin) × Within 47 result }
-{
-    image_rows as i64 * k + measures::whole_rows(ThirtySeconds(origin))
-}
+// What a ruler measures of a strip.
+impl Ruler {
+    // The image row at which a strip starts, whole images counted.
+    fn top_row(self, k: i64) -> i64
+        requires { StripOf self k }
+        ensures { (result ≡ pos self.image_rows *ℤ k +ℤ whole_rows self.origin) × Within 47 result }
+    {
+        self.image_rows as i64 * k + measures::whole_rows(ThirtySeconds(self.origin))
+    }
 
-// The rows of strip `slice` above the start, which no later strip has.
-fn above(first_rows: i64, k: i64, slice: i64) -> i64
-    ensures { result ≡ cond (le_z k slice) first_rows (pos 0) }
-{
-    if k <= slice { first_rows } else { 0 }
-}
+    // The whole images that strip k lies below the origin's.
+    fn wholes(self, k: i64) -> i64
+        requires { StripOf self k }
+        ensures { result ≡ wholes_of self k }
+    {
+        let rows = self.top_row(k) + self.carry as i64 + above(self.first_rows, k, self.slice);
+        signed::floor_div(rows, self.source_rows)
+    }
 
-// The whole images that strip k lies below the origin's.
-fn wholes(r: Ruler, k: i64) -> i64
-    requires { StripOf r k }
-    ensures { result ≡ wholes_of r k }
-{
-    let top = top_row(r.image_rows, k, r.origin);
-    let rows = top + r.carry as i64 + above(r.first_rows, k, r.slice);
-    signed::floor_div(rows, r.source_rows)
-}
+    fn exact(self, earlier: u64) -> i64
+        requires { earlier ≤ 2 ^ 31 }
+        ensures { (result ≡ pos (32 * (self.start + 32 * self.carry) + self.h * earlier)) × Within 48 result }
+    {
+        (32 * (self.start + 32 * self.carry) + self.h * earlier) as i64
+    }
 
-fn sampled(row: u64, ult: i64) -> i64
-    requires { (row ≤ 65535) × Signed16 ult }
-    ensures { (result ≡ pos (1024 * row) +ℤ pos 32 *ℤ ult) × Within 32 result }
-{
-    (1024 * row) as i64 + 32 * ult
-}
-
-fn exact(h: u64, start: u64, carry: u64, earlier: u64) -> i64
-    requires { (h ≤ 65535) × ((start ≤ 2 ^ 26) × ((carry ≤ 2 ^ 23) × (earlier ≤ 2 ^ 31))) }
-    ensures { (result ≡ pos (32 * (start + 32 * carry) + h * earlier)) × Within 48 result }
-{
-    (32 * (start + 32 * carry) + h * earlier) as i64
-}
-
-fn distance(r: Ruler, k: i64, row: u64, ult: i64, earlier: u64) -> i64
-    requires { (StripOf r k) × ((earlier ≤ 2 ^ 31) × ((row ≤ 65535) × Signed16 ult)) }
-    ensures { result ≡ ahead_at r k row ult earlier 0 }
-{
-    let near = sampled(row, ult) - exact(r.h, r.start, r.carry, earlier);
-    near + (256 * r.image_h) as i64 * wholes(r, k)
+    fn distance(self, k: i64, row: u64, ult: i64, earlier: u64) -> i64
+        requires { (StripOf self k) × ((earlier ≤ 2 ^ 31) × ((row ≤ 65535) × Signed16 ult)) }
+        ensures { result ≡ ahead_at self k row ult earlier 0 }
+    {
+        let near = sampled(row, ult) - self.exact(earlier);
+        near + (256 * self.image_h) as i64 * self.wholes(k)
+    }
 }
 
 // A rectangle, and the place after its strip.
@@ -81,11 +83,9 @@ fn rect_taken(r: Ruler, p: Place, uly: u64, lry: u64, ult: i64, row: u64) -> Tak
     requires { (SoundPlace r p) × RectIn lry ult row }
     ensures { RectIs r p uly lry ult row result }
 {
-    let Some(s) = next_strip(r, p) else {
-        return Err(Over);
-    };
+    let s = next_strip(r, p).ok_or(Over)?;
     let lines = lry.saturating_sub(uly) / 4;
-    let distance = distance(r, s.k, row, ult, s.earlier);
+    let distance = r.distance(s.k, row, ult, s.earlier);
     let begun = Begun {
         line: s.earlier,
         strip: s.k,

@@ -37,7 +37,7 @@ fn removed_of(frame: Quarters, image: Quarters, scale: Scale) -> Quarters
     ensures value { result ≡ in_quarters (pos (removed (quarters frame) (quarters image) scale.0)) }
     ensures result_bound { quarters result ≤ quarters frame + 4 }
 {
-    measures::extent(frame.0 - max_of(image, scale).0)
+    measures::extent(frame - max_of(image, scale))
 }
 
 fn height_of(frame: Quarters, image: Quarters, scale: Scale) -> Quarters
@@ -45,7 +45,7 @@ fn height_of(frame: Quarters, image: Quarters, scale: Scale) -> Quarters
     ensures value { result ≡ in_quarters (lower (quarters frame) (quarters image) scale.0) }
     ensures extent { Extent result.0 }
 {
-    Quarters(frame.0.min(max_of(image, scale).0))
+    frame.min(max_of(image, scale))
 }
 
 // The Rust's `left` and `top`.
@@ -54,7 +54,7 @@ fn near_cut(x: Quarters, ul: i32) -> Quarters
     ensures value { result ≡ in_quarters (pos (near_cut x.0 (edge ul))) }
     ensures result_bound { quarters result ≤ 36863 }
 {
-    measures::extent(measures::edge(ul).0 - x.0)
+    measures::extent(measures::edge(ul) - x)
 }
 
 // The Rust's `right` and `bottom`.
@@ -65,7 +65,7 @@ fn far_cut(x: Quarters, extent: Quarters, lr: i32) -> Quarters
     ensures value { result ≡ in_quarters (pos (far_cut x.0 extent.0 (edge lr))) }
     ensures result_bound { quarters result ≤ 2 ^ 19 }
 {
-    measures::extent(extent.0 - measures::edge(lr).0 + x.0)
+    measures::extent(extent - measures::edge(lr) + x)
 }
 
 // An extent at `x` between two edges of the scissor.
@@ -80,8 +80,8 @@ fn cut_axis(x: Quarters, extent: Quarters, ul: i32, lr: i32) -> Axis
     Axis {
         near,
         far,
-        start: measures::extent(x.0 + near.0),
-        rest: measures::extent(extent.0 - (near.0 + far.0)),
+        start: measures::extent(x + near),
+        rest: measures::extent(extent - (near + far)),
     }
 }
 
@@ -91,11 +91,7 @@ fn x_of(frame_x: Quarters, flip: bool, removed_w: Quarters) -> Quarters
     ensures value { result ≡ in_quarters (moved frame_x.0 flip (quarters removed_w)) }
     ensures position { Position result.0 }
 {
-    if flip {
-        Quarters(frame_x.0 + removed_w.0)
-    } else {
-        frame_x
-    }
+    if flip { frame_x + removed_w } else { frame_x }
 }
 
 fn width_of(frame_w: Quarters, removed_w: Quarters) -> Quarters
@@ -104,7 +100,7 @@ fn width_of(frame_w: Quarters, removed_w: Quarters) -> Quarters
     ensures value { result ≡ in_quarters (kept (quarters frame_w) (quarters removed_w)) }
     ensures extent { Extent result.0 }
 {
-    Quarters(frame_w.0 - removed_w.0)
+    frame_w - removed_w
 }
 
 fn across(bg: ObjBg, flip: bool, scissor: Scissor) -> Axis
@@ -129,7 +125,7 @@ pub fn clip_of(bg: ObjBg, scissor: Scissor) -> Clip
     requires { PassedScaled bg scissor }
     ensures { ClipIs bg scissor result }
 {
-    let flip = bg.image_flip % 2 == 1;
+    let flip = bg.flipped();
     let horizontal = across(bg, flip, scissor);
     let vertical = down(bg, scissor);
     Clip {

@@ -2,7 +2,6 @@
 #![tactic(auto)]
 
 mod clip;
-mod measure;
 mod start;
 mod strip;
 

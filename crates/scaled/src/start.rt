@@ -5,7 +5,6 @@ ghost use Rattle.measures.specs.Range.{Below, Within};
 ghost use Rattle.scaled.specs.Range.{Usable, Filled, StartIs};
 ghost use Rattle.scaled.specs.Strip.{origin_of};
 
-use crate::measure::sum;
 use measures::{Quarters, Scale, ThirtySeconds};
 use object::ObjBg;
 use plan::{Clip, Start};
@@ -16,7 +15,7 @@ fn position_after(first: ThirtySeconds, cut: Quarters, scale: Scale) -> ThirtySe
     ensures value { result ≡ in_thirty_seconds (pos (thirty_seconds first + sampled_by (quarters cut) scale.0)) }
     ensures result_bound { thirty_seconds result ≤ 2 ^ 26 }
 {
-    sum(first, measures::sampled_by(cut, scale))
+    first + measures::sampled_by(cut, scale)
 }
 
 // How often an image's width or height goes into a position.
@@ -40,7 +39,7 @@ fn origin_of(origin: ThirtySeconds, down: ThirtySeconds, back: ThirtySeconds) ->
     requires { (Within 31 origin.0) × ((Below 31 down.0) × Below 31 back.0) }
     ensures { result ≡ in_thirty_seconds (origin_of origin.0 (thirty_seconds down) (thirty_seconds back)) }
 {
-    ThirtySeconds(origin.0 + down.0 - back.0)
+    origin + down - back
 }
 
 pub fn start_of(bg: ObjBg, c: Clip) -> Start
@@ -54,7 +53,7 @@ pub fn start_of(bg: ObjBg, c: Clip) -> Start
     let x = position_after(bg.image_x, cut, bg.scale_w);
     let carry = wraps(x, source_w);
     let down = measures::of_rows(carry as i64);
-    let y = sum(position_after(bg.image_y, c.top, bg.scale_h), down);
+    let y = position_after(bg.image_y, c.top, bg.scale_h) + down;
     let wrap = wraps(y, source_h);
     let back = measures::of_thirty_seconds(wrap * measures::thirty_seconds(source_h));
     Start {

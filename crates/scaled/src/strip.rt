@@ -6,7 +6,6 @@ ghost use Rattle.plan.specs.Scaled.{slices_bad};
 ghost use Rattle.scaled.specs.Range.{Usable, Filled, StartIn, ScaledIs};
 ghost use Rattle.scaled.specs.Strip.{shift_of, max_slice, line_of, split_of, s_of, RowsAre, ColumnsAre};
 
-use crate::measure::sum;
 use measures::{Quarters, Scale, ThirtySeconds};
 use object::ObjBg;
 use plan::{Clip, Scaled, Start};
@@ -29,7 +28,7 @@ pub(crate) struct Columns {
     pub(crate) s: ThirtySeconds,
 }
 
-// One where the render mode blends two rows, so that a strip loads one row more.
+// One where the render mode blends two rows, so that a strip loads one row more: a number and no bool, as it is added to rows and to columns here, in `Scaled` and in every definition, so its bound stands in clauses.
 fn bilerp_of(mode: u32) -> u64
     ensures value { result ≡ mode / 8 % 2 }
     ensures upper_bound { result ≤ 1 }
@@ -37,7 +36,7 @@ fn bilerp_of(mode: u32) -> u64
     u64::from((mode >> 3) & 1)
 }
 
-// The thirty-seconds of a texel in one 64-bit word.
+// The thirty-seconds of a texel in one 64-bit word. siz stays the object's byte, and is shifted by: an enum would be made and taken apart in every function, and the definitions count in 2^siz.
 fn shift_of(siz: u8) -> u64
     requires { siz ≤ 3 }
     ensures value { result ≡ shift_of siz }
@@ -74,10 +73,7 @@ fn slice_width(width: Quarters, scale: Scale, bilerp: u64) -> ThirtySeconds
     ensures value { result ≡ in_thirty_seconds (pos (sampled_by (quarters width) scale.0 + of_rows bilerp)) }
     ensures result_bound { thirty_seconds result ≤ 2 ^ 26 }
 {
-    sum(
-        measures::sampled_by(width, scale),
-        measures::of_rows(bilerp as i64),
-    )
+    measures::sampled_by(width, scale) + measures::of_rows(bilerp as i64)
 }
 
 // The words of a tile's row: those of the widest strip, and one more.
@@ -108,7 +104,7 @@ fn split_of(source_w: ThirtySeconds, end: ThirtySeconds) -> u64
     u64::from(measures::thirty_seconds(source_w) <= measures::thirty_seconds(end))
 }
 
-// The texture column of the frame's left side, which in a flipped frame is the image's right.
+// The texture column of the frame's left side, which in a flipped frame is the image's right. Added and negated as numbers: this is the one negative measure, so the measures have no `Neg`.
 fn s_of(flip: bool, column: ThirtySeconds, image_width: ThirtySeconds) -> ThirtySeconds
     requires { (Below 9 column.0) × Below 26 image_width.0 }
     ensures { result ≡ in_thirty_seconds (s_of flip (thirty_seconds column) (thirty_seconds image_width)) }
@@ -148,7 +144,7 @@ fn columns_of(bg: ObjBg, bilerp: u64, c: Clip, i: Start) -> Columns
     let column = column_of(i.image_x, bg.image_siz);
     let image_width = measures::sampled_by(c.width, bg.scale_w);
     Columns {
-        split: split_of(source_w, sum(i.image_x, slice)),
+        split: split_of(source_w, i.image_x + slice),
         stride: bytes_of(source_w, bg.image_siz),
         x_offset: bytes_of(i.image_x, bg.image_siz),
         s: s_of(c.flip, column, image_width),
@@ -170,7 +166,7 @@ pub fn scaled_of(bg: ObjBg, mode: u32, address: u64, c: Clip, i: Start) -> Scale
         palette: signed::low8(bg.image_pal).into(),
         address,
         x: c.x,
-        x_end: Quarters(c.x.0 + c.width.0),
+        x_end: c.x + c.width,
         scale_w: bg.scale_w,
         scale_h: bg.scale_h,
         bilerp,

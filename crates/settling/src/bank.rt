@@ -1,19 +1,16 @@
 // What entries set in the words of a bank that a host lends: an entry by itself, or the last of each kind once a plan is written.
-// The bank is no array, since each promise here holds of a bank of any length: a type of 136 words would ask more of callers.
+// The bank is no array, since each promise here holds of a bank of any length and would be narrower of one of 136 words; a count hands on a bank of one. A tile is set from the plan's words at a place: an array of the entry's words would have to be cut out and unwrapped first.
 ghost use Rattle.std.specs.Prelude.{◌≡◌, ◌+◌, ◌≤◌, ◌<◌, length};
 ghost use Rattle.plan.specs.Sound.{Narrow};
 ghost use Rattle.giving.specs.Host.{tile_in, bounds_in, words_step};
 ghost use Rattle.giving.specs.Places.{BoundsIn, PlacesIn, tile_at, bounds_at, tile_settled, bounds_settled, settled_of};
 
-use giving::Places;
+use giving::{Places, TILE};
 use plan::Entry;
 use tile::texels;
 use words::put;
 
-// A tile's words: its fields in their order.
-const TILE: usize = 17;
-
-// Sets all of a tile but its bounds, width and height; nothing where there is no such tile. The numbers are an entry's own in every definition, so they are parameters and no struct.
+// Sets all of a tile but its bounds, width and height; nothing where there is no such tile. The definitions take an entry's numbers one by one, so these are parameters and no struct.
 fn set_tile(
     bank: &mut [u64],
     index: u64,
@@ -31,7 +28,7 @@ fn set_tile(
 {
     if index < (bank.len() / TILE) as u64 {
         let numbers = [fmt, siz, palette, cms, cmt, masks, maskt, 0, 0, line, tmem];
-        put(&mut *bank, index as usize * TILE + 6, &numbers);
+        put(bank, index as usize * TILE + 6, &numbers);
     }
 }
 
@@ -44,7 +41,7 @@ fn set_bounds(bank: &mut [u64], index: u64, uls: u64, ult: u64, lrs: u64, lrt: u
         let width = u64::from(texels(uls as u16, lrs as u16));
         let height = u64::from(texels(ult as u16, lrt as u16));
         let numbers = [uls, ult, lrs, lrt, width, height];
-        put(&mut *bank, index as usize * TILE, &numbers);
+        put(bank, index as usize * TILE, &numbers);
     }
 }
 
@@ -68,7 +65,7 @@ pub fn set_words(bank: &mut [u64], e: Entry)
             maskt,
         } => {
             set_tile(
-                &mut *bank, index, fmt, siz, line, tmem, palette, cms, cmt, masks, maskt,
+                bank, index, fmt, siz, line, tmem, palette, cms, cmt, masks, maskt,
             );
         }
         Entry::Size {
@@ -86,7 +83,7 @@ pub fn set_words(bank: &mut [u64], e: Entry)
             lrt,
             ..
         } => {
-            set_bounds(&mut *bank, index, uls, ult, lrs, lrt);
+            set_bounds(bank, index, uls, ult, lrs, lrt);
         }
         Entry::Image { .. } | Entry::Rect { .. } => {}
     }
@@ -98,7 +95,7 @@ pub fn tile_at(bank: &mut [u64], index: u64, plan: &[u64], place: usize)
     ensures { bank.new ≡ tile_at bank.old index plan.now place }
 {
     set_tile(
-        &mut *bank,
+        bank,
         index,
         plan[place + 1],
         plan[place + 2],
@@ -118,7 +115,7 @@ pub fn bounds_at(bank: &mut [u64], index: u64, plan: &[u64], place: usize)
     ensures { bank.new ≡ bounds_at bank.old index plan.now place }
 {
     set_bounds(
-        &mut *bank,
+        bank,
         index,
         plan[place + 1],
         plan[place + 2],
@@ -133,7 +130,7 @@ fn settle_tile(bank: &mut [u64], index: u64, plan: &[u64], place: usize)
     ensures { bank.new ≡ tile_settled bank.old index plan.now place }
 {
     if place != 0 {
-        tile_at(&mut *bank, index, plan, place);
+        tile_at(bank, index, plan, place);
     }
 }
 
@@ -143,7 +140,7 @@ fn settle_bounds(bank: &mut [u64], index: u64, plan: &[u64], place: usize)
     ensures { bank.new ≡ bounds_settled bank.old index plan.now place }
 {
     if place != 0 {
-        bounds_at(&mut *bank, index, plan, place);
+        bounds_at(bank, index, plan, place);
     }
 }
 
@@ -153,8 +150,8 @@ pub fn settle(bank: &mut [u64], places: Places, plan: &[u64])
     requires { PlacesIn plan.now places }
     ensures { bank.new ≡ settled_of bank.old plan.now places }
 {
-    settle_tile(&mut *bank, 0, plan, places.tile0);
-    settle_tile(&mut *bank, 7, plan, places.tile7);
-    settle_bounds(&mut *bank, 0, plan, places.bounds0);
-    settle_bounds(&mut *bank, 7, plan, places.bounds7);
+    settle_tile(bank, 0, plan, places.tile0);
+    settle_tile(bank, 7, plan, places.tile7);
+    settle_bounds(bank, 0, plan, places.bounds0);
+    settle_bounds(bank, 7, plan, places.bounds7);
 }

@@ -28,12 +28,12 @@ pub fn next_text(start: Planner, out: &mut [u8]) -> Chunk
         planner = s.planner;
         match s.given {
             Ok(entry) => {
-                count = entry_line(&mut *out, count, entry);
+                count = entry_line(out, count, entry);
             }
             Err(stop) => {
                 return Chunk {
                     planner,
-                    count: end_line(&mut *out, count, stop.end),
+                    count: end_line(out, count, stop.end),
                     end: Some(stop.end),
                 };
             }

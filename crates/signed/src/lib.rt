@@ -1,9 +1,7 @@
 // Signed numbers: division that rounds down, and casts that cut.
 #![tactic(auto)]
 
-ghost use Rattle.std.specs.Prelude.{◌≡◌, ◌+◌, ◌-◌, ◌%◌, ◌/◌, ◌^◌, ◌<◌, ◌≤◌, min, max, pos, neg_ℤ, ◌≤ℤ◌};
-ghost use Rattle.std.specs.Int.{w16};
-ghost use Rattle.std.proofs.Common.{to_z};
+ghost use Rattle.std.specs.Prelude.{◌≡◌, ◌-◌, ◌%◌, ◌/◌, ◌^◌, ◌<◌, ◌≤◌, max, pos, neg_ℤ, ◌≤ℤ◌};
 ghost use Rattle.signed.specs.Diff.{up};
 ghost use Rattle.signed.specs.Floor.{floor_div, modulo};
 ghost use Rattle.signed.specs.Cast.{u16, i16, word};
@@ -45,7 +43,7 @@ pub fn wrapped(a: i64, b: u64) -> u64
     if n < b { n } else { n % b }
 }
 
-// Casts that cut: `as u8`, `as u16`, `as i16`, and a word of a signed number.
+// Casts that cut: `as u8`, `as u16`, `as i16`, and a word of a signed number. A cast must not lose bits, so a remainder cuts before it; a mask cuts what may be negative, whose remainder is negative too.
 
 pub fn low8(x: u16) -> u8
     ensures { result ≡ x % 2 ^ 8 }
@@ -59,12 +57,13 @@ pub fn low16(x: i64) -> u16
     (x & 0xffff) as u16
 }
 
-pub fn signed16(x: i64) -> i16
+pub fn signed16(x: i64) -> i64
     ensures { result ≡ i16 x }
 {
-    low16(x).cast_signed()
+    i64::from(low16(x).cast_signed())
 }
 
+// Modulo 2^64, as the definitions have it: the library's cast promises the bits of a machine's word, and each caller would need the law from these to that.
 pub fn word_of(x: i64) -> u64
     ensures { result ≡ word x }
 {

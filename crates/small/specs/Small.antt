@@ -10,7 +10,7 @@ use Rattle.signed.specs.Floor.{modulo, modulo_lt}
 use Rattle.signed.specs.Cast.{u16, i16}
 use Rattle.object.specs.declared.types.Verdict.{Verdict}
 use Rattle.object.specs.declared.types.Verdict.TheVariants as verdict
-use Rattle.load_tile.specs.Load.{words_of, rows_of, stride_of, offset_of, granted, pick_request, request_of}
+use Rattle.load_tile.specs.Load.{words_of, rows_of, stride_of, offset_of, granted, pick, request_of}
 use Rattle.plan.specs.declared.types.Entry.{Entry}
 use Rattle.plan.specs.declared.types.Entry.TheVariants as entry
 use Rattle.plan.specs.Out.{Out, more, ◌>>=◌, yield, emit}
@@ -114,7 +114,7 @@ load_stride (suc (suc zero)) width h l = omega arith
 load_stride (suc (suc (suc zero))) width h l = omega arith
 load_stride (suc (suc (suc (suc n)))) width h l = absurd (omega arith)
 
-few_request : (t : Bool) (words rows stride start len i uls ult lrs lrt : ℕ) → (t ≡ true → Small (entry.Load i uls ult lrs lrt words rows stride start len)) → Few Any 1 (load_out (pick_request t (record { words = words; rows = rows; stride = stride; start = start; length = len })) i uls ult lrs lrt)
+few_request : (t : Bool) (words rows stride start len i uls ult lrs lrt : ℕ) → (t ≡ true → Small (entry.Load i uls ult lrs lrt words rows stride start len)) → Few Any 1 (load_out (pick t (record { words = words; rows = rows; stride = stride; start = start; length = len })) i uls ult lrs lrt)
 unfolding load_out
 few_request true words rows stride start len i uls ult lrs lrt h = record { small = (h refl, tt); few = omega arith; goes = tt }
 few_request false words rows stride start len i uls ult lrs lrt h = record { small = tt; few = omega arith; goes = tt }

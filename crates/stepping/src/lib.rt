@@ -8,20 +8,14 @@
 // A call with another number of words, or with words that are no planner's, answers 1 and changes nothing.
 #![tactic(auto)]
 
-ghost use Rattle.std.specs.Prelude.{◌≡◌, length};
+ghost use Rattle.std.specs.Prelude.{◌≡◌};
 ghost use Rattle.giving.specs.Host.{words_after};
 ghost use Rattle.planner.specs.Coming.{answer_in, GivenIn};
-ghost use Rattle.stored.specs.Stored.{StoredIs};
 ghost use Rattle.stepping.specs.Host.{answer_words, sets_in, Moved, StepIs, StartIs};
 
 use planner::{Given, Planner};
 use request::Request;
-
-const STATE: usize = 39;
-
-const BANK: usize = 136;
-
-const ENTRY: usize = 11;
+use stored_fields::State;
 
 fn out_words(given: Given) -> [u64; 11]
     ensures { result ≡ answer_words (answer_in given) }
@@ -32,52 +26,49 @@ fn out_words(given: Given) -> [u64; 11]
     }
 }
 
-// A load that is refused has set its tile's size.
+// A load that is refused has set its tile's size: by `if let` and no `map`, as `set_words` gives no value.
 #[tactic(auto, unfolding(giving::specs::Host::words_after))]
 fn set_bank(bank: &mut [u64], given: Given)
     requires { GivenIn given }
     ensures { bank.new ≡ words_after bank.old (sets_in given) }
 {
     match given {
-        Ok(entry) => settling::set_words(&mut *bank, entry),
+        Ok(entry) => settling::set_words(bank, entry),
         Err(stop) => {
             if let Some(size) = stop.size {
-                settling::set_words(&mut *bank, size);
+                settling::set_words(bank, size);
             }
         }
     }
 }
 
-fn moved(p: Planner, state: &mut [u64], bank: &mut [u64], out: &mut [u64])
-    requires { (length state.old ≡ 39) × (length out.old ≡ 11) }
+fn moved(p: Planner, state: &mut State, bank: &mut [u64], out: &mut [u64; 11])
     ensures { Moved p bank.old state.new bank.new out.new }
 {
     let s = p.step();
-    state.copy_from_slice(&stored::stored(s.planner));
-    set_bank(&mut *bank, s.given);
-    out.copy_from_slice(&out_words(s.given));
+    *state = stored::stored(s.planner);
+    set_bank(bank, s.given);
+    *out = out_words(s.given);
 }
 
 // One step: the answer goes to `out`, `bank` has what it sets, and `state` has the rest to come. After the end the same end, and nothing else changes.
 pub fn visor_step(state: &mut [u64], bank: &mut [u64], out: &mut [u64]) -> u64
     ensures { StepIs state.old bank.old out.old result state.new bank.new out.new }
 {
-    let Ok(words) = <[u64; STATE]>::try_from(&*state) else {
+    let Some(state) = state.as_mut_array() else {
         return 1;
     };
-    if bank.len() != BANK {
+    let Some(bank) = bank.as_mut_array::<136>() else {
         return 1;
-    }
-    if out.len() != ENTRY {
+    };
+    let Some(out) = out.as_mut_array() else {
         return 1;
-    }
-    match stored::load(words) {
-        Some(p) => {
-            moved(p, &mut *state, &mut *bank, &mut *out);
-            0
-        }
-        None => 1,
-    }
+    };
+    let Some(p) = stored::load(*state) else {
+        return 1;
+    };
+    moved(p, state, bank, out);
+    0
 }
 
 // The planner of a request, with its whole plan to come.
@@ -87,10 +78,10 @@ pub fn visor_start(object: &[u8], request: &[u64], state: &mut [u64]) -> u64
     let Ok(q) = Request::try_from(request) else {
         return 1;
     };
-    if state.len() != STATE {
+    let Some(state) = state.as_mut_array() else {
         return 1;
-    }
+    };
     let p = starts::fresh(object, q);
-    state.copy_from_slice(&stored::stored(p));
+    *state = stored::stored(p);
     0
 }

@@ -1,12 +1,15 @@
 -- What passes the test is sound; a sound planner's words pass it, and give the planner back.
 -- Assumes nothing.
 use mathlib.Core.Path.{◌≡◌, sym, ap, ◌∙◌, refl, subst}
-use mathlib.Core.Bool.{Bool, true, false, cond, ◌&&◌}
+use mathlib.Core.Bool.{Bool, true, false, cond, ◌&&◌, true≢false}
 use mathlib.Core.List.{List}
 use Prim.Native.Nat.{ℕ, ◌+◌, ◌≤◌, ◌^◌}
 use lib.ListN.{length, get_or}
 use lib.Dec.{ltb, eqb}
 use Rattle.std.proofs.lemmas.Bool.{and_parts}
+use Rattle.std.specs.Prelude.{None}
+use Rattle.std.specs.Bool.{then_some}
+use Rattle.std.specs.Cmp.Lexicographic.{pointwise, same_text, other_text}
 use Rattle.object.specs.declared.types.Verdict.{Verdict}
 use Rattle.object.specs.declared.types.Verdict.TheVariants as verdict
 use Rattle.checks.specs.Check.{verdict_number}
@@ -36,7 +39,7 @@ use Rattle.stored_copy.specs.Course as copied
 use Rattle.stored_scaled.specs.Course.{scaled_words, FitsPlace, stage_test}
 use Rattle.stored_scaled.proofs.Laws.{stage_yes, stage_no, scaled_back, start_at_lem}
 use Rattle.stored_scaled.specs.Course as passed
-use Rattle.stored.specs.Stored.{over_words, course_words, FitsCourse, WordsOf, verdict_from, counts_from, course_from, planner_from, sound_test}
+use Rattle.stored.specs.Stored.{StoredIs, LoadedIs, stored_of, over_words, course_words, FitsCourse, WordsOf, verdict_from, counts_from, course_from, planner_from, sound_test}
 
 -- ---- what passes the test is sound
 
@@ -175,6 +178,15 @@ words_return p ws h = subst (Returns p) (sym h.stored.is) (course_returns p.cour
 -- so words are those of one planner at the most
 pub one_planner : (p q : Planner) (ws : List ℕ) → WordsOf p ws → WordsOf q ws → p ≡ q
 one_planner p q ws h k = sym (words_return p ws h).back ∙ (words_return q ws k).back
+
+-- words that pass the test are their planner's where they are its words, and else no planner's
+pub loaded : (ws own : List ℕ) (same : Bool) → sound_test ws ≡ true → StoredIs (planner_from ws) own → same ≡ pointwise eqb ws own → LoadedIs ws (then_some same (planner_from ws))
+loaded ws own true t s e = record { stored = record { is = same_text ws own e ∙ s.is; fits = s.fits }; sound = test_sound ws t }
+loaded ws own false t s e = λ p h. other_text ws own e (h.stored.is ∙ sym (ap stored_of (words_return p ws h).back) ∙ sym s.is)
+
+-- words that do not pass it are no planner's
+pub no_words : (ws : List ℕ) → sound_test ws ≡ false → LoadedIs ws None
+no_words ws t = λ p h. true≢false (sym (words_return p ws h).test ∙ t)
 
 pub thirty_nine : (w : Course) (n : Counts) → length (course_words w n) ≡ 39
 unfolding copy_words scaled_words over_words

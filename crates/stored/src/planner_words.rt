@@ -7,14 +7,14 @@ use checks::number;
 use copy::Due;
 use object::Verdict;
 use planner::{Course, Planner};
-use stored_fields::{State, counts_sound};
+use stored_fields::{STATE, State, counts_sound};
 use words::Counts;
 
 #[tactic(auto, unfolding(crate::specs::Stored::over_words))]
 fn over_words(v: Verdict, n: Counts) -> State
     ensures { result ≡ over_words v n }
 {
-    let mut words: State = [0; 39];
+    let mut words: State = [0; STATE];
     words[1] = n.entries;
     words[2] = n.rectangles;
     words[3] = n.words;
@@ -34,7 +34,7 @@ pub fn words_of(course: Course, counts: Counts) -> State
     }
 }
 
-// A planner's words.
+// A planner's words. By its name and not `From`, as `load` is not `TryFrom`: the planner is another crate's type and its words are an array, so Rust lets this crate implement neither.
 pub fn stored(p: Planner) -> State
     ensures { StoredIs p result }
 {
@@ -76,65 +76,64 @@ fn counts_from(words: &State) -> Counts
 fn course_from(words: &State) -> Course
     ensures { result ≡ course_from words.now }
 {
-    let k = words[0];
-    if k == 0 {
-        return Course::Over(verdict_from(words[5]));
+    match words[0] {
+        0 => Course::Over(verdict_from(words[5])),
+        1 => Course::Copy(
+            copy::Stage::Strip(Due::Image),
+            copy::copy_start(stored_copy::copy_from(words)),
+        ),
+        k @ 2..=7 => Course::Copy(stored_copy::stage_from(k), stored_copy::place_from(words)),
+        k => Course::Scaled(
+            stored_scaled::stage_from(k),
+            stored_scaled::place_from(words),
+        ),
     }
-    if k == 1 {
-        let place = copy::copy_start(stored_copy::copy_from(words));
-        return Course::Copy(copy::Stage::Strip(Due::Image), place);
-    }
-    if k < 8 {
-        return Course::Copy(stored_copy::stage_from(k), stored_copy::place_from(words));
-    }
-    Course::Scaled(
-        stored_scaled::stage_from(k),
-        stored_scaled::place_from(words),
-    )
 }
 
 // The planner of words that were tested.
+#[tactic(auto, using(crate::proofs::Laws::test_sound))]
 fn planner_from(words: &State) -> Planner
     requires { sound_test words.now ≡ true }
     ensures { result ≡ planner_from words.now }
 {
-    let course = course_from(words);
-    let counts = counts_from(words);
-    Planner { course, counts }
+    Planner {
+        course: course_from(words),
+        counts: counts_from(words),
+    }
 }
 
 // A start has a texture image and five entries for each of 1,024 by 1,024 cells to come, at the most.
-const ALL: u64 = 5242881;
+const ALL: u64 = 5 * 1024 * 1024 + 1;
 
 // Whether the planner of the words is sound, tested before it is made: what a step asks of its numbers, and few enough entries.
+#[tactic(auto, using(stored_copy::proofs::Laws::place_yes, stored_scaled::proofs::Laws::few_lines), unfolding(crate::specs::Stored::sound_test))]
 fn sound(words: &State) -> bool
     ensures { result ≡ sound_test words.now }
 {
-    let k = words[0];
     let n = counts_from(words);
-    if k == 0 {
-        return counts_sound(n, 0);
-    }
-    if k == 1 {
-        return stored_copy::copy_sound(words) & counts_sound(n, ALL);
-    }
-    if k < 8 {
-        if !stored_copy::place_sound(words) {
-            return false;
+    match words[0] {
+        0 => counts_sound(n, 0),
+        1 => stored_copy::copy_sound(words) && counts_sound(n, ALL),
+        k @ 2..=7 => {
+            stored_copy::place_sound(words)
+                && counts_sound(
+                    n,
+                    stored_copy::copy_left(
+                        stored_copy::stage_from(k),
+                        stored_copy::place_from(words),
+                    ),
+                )
         }
-        return counts_sound(
-            n,
-            stored_copy::copy_left(stored_copy::stage_from(k), stored_copy::place_from(words)),
-        );
+        k => {
+            let stage = stored_scaled::stage_from(k);
+            stored_scaled::stage_sound(stage, words)
+                && counts_sound(n, stored_scaled::scaled_left(stage, words))
+        }
     }
-    let stage = stored_scaled::stage_from(k);
-    if !stored_scaled::stage_sound(stage, words) {
-        return false;
-    }
-    counts_sound(n, stored_scaled::scaled_left(stage, words))
 }
 
 // The planner of any words; nothing where they are no sound planner's. No other words are a planner's than those that `stored` gives: what the test leaves open, such as a word that the course does not use, must be as there.
+#[tactic(auto, using(crate::proofs::Laws::loaded, crate::proofs::Laws::no_words))]
 pub fn load(words: State) -> Option<Planner>
     ensures { LoadedIs words result }
 {
@@ -142,5 +141,5 @@ pub fn load(words: State) -> Option<Planner>
         return None;
     }
     let p = planner_from(&words);
-    if words == stored(p) { Some(p) } else { None }
+    (words == stored(p)).then_some(p)
 }

@@ -9,7 +9,7 @@ use Rattle.copy.specs.declared.types.Due.TheVariants as due
 use Rattle.copy.specs.declared.types.Stage.{Stage}
 use Rattle.copy.specs.declared.types.Stage.TheVariants as stage
 use Rattle.copy.specs.declared.types.Place.{Place}
-use Rattle.stored_fields.specs.Test.{all_of}
+use Rattle.stored_fields.specs.Test.{all_of, within}
 use Rattle.stored_fields.specs.Signed.{flag_word, signed_at}
 
 -- ---- the words: the stage, the counts, and the place's numbers in their order
@@ -72,9 +72,9 @@ place_from ws = record { copy = copy_from ws; x = get_or ws 23 0; y = get_or ws 
 
 abbrev pub copy_tests : List ℕ → List Bool
 copy_tests ws =
-    eqb (get_or ws 22 0) (16 / 2 ^ get_or ws 6 0) ∷ leb (get_or ws 5 0) 255 ∷ leb (get_or ws 7 0) 255 ∷ leb 1 (get_or ws 10 0) ∷ leb (get_or ws 10 0) 16383
-    ∷ leb 1 (get_or ws 11 0) ∷ leb (get_or ws 11 0) 16383 ∷ leb 1 (get_or ws 12 0) ∷ leb (get_or ws 12 0) 16383 ∷ leb (get_or ws 13 0) 16383
-    ∷ leb (get_or ws 14 0) 4095 ∷ leb (get_or ws 15 0) 4095 ∷ leb 1 (get_or ws 16 0) ∷ leb (get_or ws 16 0) 1023 ∷ leb 1 (get_or ws 17 0) ∷ leb (get_or ws 17 0) 1023
+    eqb (get_or ws 22 0) (16 / 2 ^ get_or ws 6 0) ∷ leb (get_or ws 5 0) 255 ∷ leb (get_or ws 7 0) 255 ∷ within 1 16383 (get_or ws 10 0)
+    ∷ within 1 16383 (get_or ws 11 0) ∷ within 1 16383 (get_or ws 12 0) ∷ leb (get_or ws 13 0) 16383
+    ∷ leb (get_or ws 14 0) 4095 ∷ leb (get_or ws 15 0) 4095 ∷ within 1 1023 (get_or ws 16 0) ∷ within 1 1023 (get_or ws 17 0)
     ∷ leb (get_or ws 18 0) 2047 ∷ leb (get_or ws 19 0) 65535 ∷ leb (get_or ws 20 0) 65535 ∷ leb (get_or ws 21 0) 512 ∷ []
 
 unfoldable pub copy_test : List ℕ → Bool
@@ -83,7 +83,7 @@ copy_test ws = all_of (leb (get_or ws 6 0) 3) (copy_tests ws)
 abbrev pub place_tests : List ℕ → List Bool
 place_tests ws =
     ltb (get_or ws 24 0) (get_or ws 17 0) ∷ leb 1 (get_or ws 26 0) ∷ leb (get_or ws 24 0 + get_or ws 26 0) (get_or ws 17 0) ∷ leb (get_or ws 25 0 + get_or ws 26 0) (get_or ws 12 0)
-    ∷ leb 1 (get_or ws 27 0) ∷ leb (get_or ws 23 0 + get_or ws 27 0) (get_or ws 16 0) ∷ leb (get_or ws 29 0) 15 ∷ leb 1 (get_or ws 30 0) ∷ leb (get_or ws 30 0) 1038
+    ∷ leb 1 (get_or ws 27 0) ∷ leb (get_or ws 23 0 + get_or ws 27 0) (get_or ws 16 0) ∷ leb (get_or ws 29 0) 15 ∷ within 1 1038 (get_or ws 30 0)
     ∷ leb (get_or ws 28 0 + get_or ws 30 0) (get_or ws 11 0) ∷ leb (get_or ws 31 0) 1039 ∷ []
 
 unfoldable pub place_test : List ℕ → Bool

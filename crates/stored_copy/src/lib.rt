@@ -1,4 +1,4 @@
-// A copy course in words and out of them, and the test of such words that is what a step asks of its place. A word goes by its place in the list of `copy_words`, here as in the definitions: a test of the place's fields would stand beside a second list of them.
+// A copy course in words and out of them, and the test of such words that is what a step asks of its place. A word goes by its place in the list of `copy_words`, here as in the definitions: tests of named fields would need that list a second time.
 #![tactic(auto)]
 
 ghost use Rattle.std.specs.Prelude.{◌≡◌};
@@ -9,7 +9,7 @@ ghost use Rattle.stored_copy.specs.Course.{stage_word, copy_words, stage_from, c
 use copy::{Due, Place, Stage};
 use measures::{Quarters, quarters};
 use plan::{Copy, Strip};
-use stored_fields::{State, room, signed_of};
+use stored_fields::{State, room};
 use strips::texels_per_word;
 use words::Counts;
 
@@ -34,12 +34,8 @@ pub fn copy_words(stage: Stage, p: Place, n: Counts) -> State
 {
     let c = p.copy;
     let s = p.strip;
-    let k = stage_word(stage);
-    let flip = u64::from(c.flip);
-    let left = quarters(c.left);
-    let top = quarters(c.top);
     [
-        k,
+        stage_word(stage),
         n.entries,
         n.rectangles,
         n.words,
@@ -47,14 +43,14 @@ pub fn copy_words(stage: Stage, p: Place, n: Counts) -> State
         c.fmt,
         c.siz,
         c.palette,
-        flip,
+        u64::from(c.flip),
         c.address,
         c.rows,
         c.image_width,
         c.image_height,
         c.frame_cells,
-        left,
-        top,
+        quarters(c.left),
+        quarters(c.top),
         c.width,
         c.height,
         c.source_x,
@@ -99,8 +95,6 @@ pub fn stage_from(k: u64) -> Stage
 pub fn copy_from(words: &State) -> Copy
     ensures { result ≡ copy_from words.now }
 {
-    let left = Quarters(signed_of(words[14]));
-    let top = Quarters(signed_of(words[15]));
     Copy {
         fmt: words[5],
         siz: words[6],
@@ -111,8 +105,8 @@ pub fn copy_from(words: &State) -> Copy
         image_width: words[11],
         image_height: words[12],
         frame_cells: words[13],
-        left,
-        top,
+        left: Quarters(words[14].cast_signed()),
+        top: Quarters(words[15].cast_signed()),
         width: words[16],
         height: words[17],
         source_x: words[18],
@@ -140,47 +134,39 @@ fn strip_from(words: &State) -> Strip
 pub fn place_from(words: &State) -> Place
     ensures { result ≡ place_from words.now }
 {
-    let copy = copy_from(words);
-    let strip = strip_from(words);
     Place {
-        copy,
+        copy: copy_from(words),
         x: words[23],
         y: words[24],
         sy: words[25],
         strip_height: words[26],
-        strip,
+        strip: strip_from(words),
     }
 }
 
+// Here and in `place_sound` the tests are joined by `&`, without a short circuit: none has an effect or can fail, so the compiler is free to order and to join them, and compares several words at once.
 #[tactic(auto, unfolding(crate::specs::Course::copy_test))]
 pub fn copy_sound(words: &State) -> bool
     ensures { result ≡ copy_test words.now }
 {
+    // The size comes first, as only one up to 3 has a count of texels in a word.
     let siz = words[6];
-    if 3 < siz {
-        return false;
-    }
-    let texels = texels_per_word(siz as u8);
-    (words[22] == texels)
-        & (words[5] <= 255)
-        & (words[7] <= 255)
-        & (1 <= words[10])
-        & (words[10] <= 16383)
-        & (1 <= words[11])
-        & (words[11] <= 16383)
-        & (1 <= words[12])
-        & (words[12] <= 16383)
-        & (words[13] <= 16383)
-        & (words[14] <= 4095)
-        & (words[15] <= 4095)
-        & (1 <= words[16])
-        & (words[16] <= 1023)
-        & (1 <= words[17])
-        & (words[17] <= 1023)
-        & (words[18] <= 2047)
-        & (words[19] <= 65535)
-        & (words[20] <= 65535)
-        & (words[21] <= 512)
+    siz <= 3
+        && ((words[22] == texels_per_word(siz as u8))
+            & (words[5] <= 255)
+            & (words[7] <= 255)
+            & (1..=16383).contains(&words[10])
+            & (1..=16383).contains(&words[11])
+            & (1..=16383).contains(&words[12])
+            & (words[13] <= 16383)
+            & (words[14] <= 4095)
+            & (words[15] <= 4095)
+            & (1..=1023).contains(&words[16])
+            & (1..=1023).contains(&words[17])
+            & (words[18] <= 2047)
+            & (words[19] <= 65535)
+            & (words[20] <= 65535)
+            & (words[21] <= 512))
 }
 
 #[tactic(auto, unfolding(crate::specs::Course::place_test))]
@@ -196,8 +182,7 @@ pub fn place_sound(words: &State) -> bool
             & (1 <= words[27])
             & room(words[23], words[27], words[16])
             & (words[29] <= 15)
-            & (1 <= words[30])
-            & (words[30] <= 1038)
+            & (1..=1038).contains(&words[30])
             & room(words[28], words[30], words[11])
             & (words[31] <= 1039))
 }

@@ -1,24 +1,29 @@
 -- What tests that are joined say together, and what a signed number's word says of it.
 -- Assumes nothing.
 use mathlib.Core.Path.{◌≡◌, refl, sym, ◌∙◌, ap}
-use mathlib.Core.Bool.{Bool, true, false, ◌&&◌, ◌||◌, true≢false}
+use mathlib.Core.Bool.{Bool, true, false, cond, ◌&&◌, ◌||◌, true≢false}
 use mathlib.Core.List.{List, [], ◌∷◌}
 use Prim.Native.Nat.{ℕ, ◌+◌, ◌-◌, ◌^◌, ◌≤◌}
 use native.Mathlib.Omega.{arith}
-use borrow.Author.Tests.{leb-true, le-leb}
+use borrow.Author.Tests.{leb-true, leb-false, le-leb}
 use lib.Dec.{leb}
+use Rattle.std.proofs.Common.{rules}
+use Rattle.std.proofs.lemmas.Bool.{and_parts}
+use Rattle.std.specs.Prelude.{Option, Some}
+use Rattle.std.specs.declared.cmp.Ordering.{Ordering}
+use Rattle.std.specs.Ordering.{nat_cmp, partial_le, partial_lt}
 use Rattle.words.specs.declared.count.Counts.{Counts}
 use Rattle.words.specs.Counts.{Countable}
 use lib.IntN.{ℤ, pos, negsuc, neg_ℤ}
 use lib.Signed.{◌≤ℤ◌}
 use mir.Syntax.{w64}
-use mir.Val.{SFits, to_z}
+use mir.Val.{SFits, to_z, of_z}
 use mir.ValLaws.{to_z-of_z, to_z_pos}
 use Rattle.signed.specs.Diff.{up, dn, zdiff, zarith, ge_dn}
 use Rattle.signed.specs.Cast.{word}
 use Rattle.signed.specs.Word.{bits_modulo}
 use Rattle.measures.specs.Range.{Below, counted}
-use Rattle.stored_fields.specs.Test.{all_of, counts_test}
+use Rattle.stored_fields.specs.Test.{all_of, within, counts_test}
 
 abbrev pub Holds : Bool → List Bool → Type 0
 Holds t [] = t ≡ true
@@ -61,6 +66,10 @@ counts_no n left h f = all_no (leb (n.entries + left) (2 ^ 40)) (leb n.rectangle
 pub word_back : (z : ℤ) → SFits w64 z → to_z w64 (word z) ≡ z
 word_back z f = ap (to_z w64) (sym (bits_modulo w64 z f)) ∙ to_z-of_z w64 z f
 
+-- the bits of a local that holds it are its word
+pub word_read : (z : ℤ) → SFits w64 z → of_z w64 (to_z w64 (of_z w64 z)) ≡ word z
+word_read z f = ap (of_z w64) (to_z-of_z w64 z f) ∙ bits_modulo w64 z f
+
 -- and one that is not negative out of its number
 pub up_back : {k : ℕ} {z : ℤ} → 2 ^ k ≤ 2 ^ 63 → Below k z → to_z w64 (up z) ≡ z
 up_back {k} {z} p b = let h = b.high in to_z_pos w64 (up z) (omega zarith) ∙ counted b.low
@@ -87,10 +96,10 @@ pub at_ge : (z : ℤ) (n : ℕ) → neg_ℤ (pos n) ≤ℤ z → dn z ≤ n
 at_ge (pos m) n h = omega arith
 at_ge (negsuc m) n h = let k = simp zdiff at h in omega zarith
 
-pub not_below : (z : ℤ) → dn z ≤ 0 → pos 0 ≤ℤ z
+pub not_below : (z : ℤ) → dn z ≡ 0 → pos 0 ≤ℤ z
 not_below z h = omega zarith
 
-pub below_not : (z : ℤ) → pos 0 ≤ℤ z → dn z ≤ 0
+pub below_not : (z : ℤ) → pos 0 ≤ℤ z → dn z ≡ 0
 below_not z h = omega (arith, ge_dn z 0 h)
 
 pub same_parts : (a b : ℤ) → up a ≡ up b → dn a ≡ dn b → a ≡ b
@@ -99,3 +108,24 @@ same_parts a b h k = omega zarith
 pub some_dn : (z : ℤ) → 1 ≤ up z → dn z ≡ 0
 some_dn (pos n) h = refl
 some_dn (negsuc n) h = absurd (omega arith)
+
+-- ---- what `contains` answers at `a..=b`
+
+abbrev compared : ℕ → ℕ → Option Ordering
+compared x y = Some (nat_cmp x y)
+
+le_is : (a b : ℕ) → partial_le compared a b ≡ leb a b
+le_is a b = by (leb a b) refl
+  where
+    by : (t : Bool) → leb a b ≡ t → partial_le compared a b ≡ t
+    by true e = let h = leb-true _ _ e in search rules
+    by false e = let h = leb-false _ _ e in search rules
+
+pub contains_is : {s e a b : ℕ} {x r : Bool} (n : ℕ) → r ≡ (partial_le compared s n && cond x (partial_lt compared n e) (partial_le compared n e)) → s ≡ a → e ≡ b → x ≡ false → r ≡ within a b n
+contains_is {s} {e} {a} {b} n h i j k = rw (i, j, k, le_is a n, le_is n b) at h
+
+pub within_yes : (a b n : ℕ) → within a b n ≡ true → (a ≤ n) × (n ≤ b)
+within_yes a b n t = let e = and_parts (leb a n) (leb n b) t in (leb-true _ _ e.0, leb-true _ _ e.1)
+
+pub within_no : (a b n : ℕ) → a ≤ n → n ≤ b → within a b n ≡ true
+within_no a b n h k = each _ _ (le-leb _ _ h) (le-leb _ _ k)

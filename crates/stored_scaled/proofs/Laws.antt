@@ -27,7 +27,7 @@ use Rattle.loads.specs.declared.types.Stage.TheVariants as stage
 use Rattle.loads.specs.declared.types.Place.{Place}
 use Rattle.loads.specs.Comes.{bounded, within}
 use Rattle.loads.specs.Sound.{SoundWalk, SoundPass, SoundPart, SoundPiece, SoundRect, SoundStart, SoundAt}
-use Rattle.stored_fields.proofs.Laws.{all_yes, all_no, each, or_left, word_back, up_back, small_below, below_small, le_at, ge_at, at_le, at_ge, not_below, below_not, same_parts, some_dn}
+use Rattle.stored_fields.proofs.Laws.{all_yes, all_no, each, within_yes, within_no, or_left, word_back, up_back, small_below, below_small, le_at, ge_at, at_le, at_ge, not_below, below_not, same_parts, some_dn}
 use Rattle.stored_fields.specs.Signed.{signed_at}
 use Rattle.stored_scaled.specs.Course.{piece_word, scaled_words, FitsPlace, piece_from, scaled_from, walk_from, place_from, scaled_tests, scaled_test, walk_tests, walk_test, due_of, pass_tests, pass_test, piece_tests, piece_test, rest_test, rect_test, at_start, at_pass, at_piece, at_rect, stage_test}
 
@@ -41,33 +41,33 @@ scaled_yes ws t =
       fmt = leb-true _ _ h.0;
       siz = leb-true _ _ h.1.0;
       palette = leb-true _ _ h.1.1.0;
-      line = leb-true _ _ h.1.1.1.0;
-      line' = leb-true _ _ h.1.1.1.1.0;
-      image_rows = leb-true _ _ h.1.1.1.1.1.0;
-      image_rows' = leb-true _ _ h.1.1.1.1.1.1.0;
-      frame_rows = leb-true _ _ h.1.1.1.1.1.1.1.0;
-      frame_rows' = leb-true _ _ h.1.1.1.1.1.1.1.1.0;
-      stride = leb-true _ _ h.1.1.1.1.1.1.1.1.1.0;
-      stride' = leb-true _ _ h.1.1.1.1.1.1.1.1.1.1.0;
-      x_offset = leb-true _ _ h.1.1.1.1.1.1.1.1.1.1.1.0;
-      source_rows = leb-true _ _ h.1.1.1.1.1.1.1.1.1.1.1.1.0;
-      source_rows' = leb-true _ _ h.1.1.1.1.1.1.1.1.1.1.1.1.1.0;
-      scale_h = leb-true _ _ h.1.1.1.1.1.1.1.1.1.1.1.1.1.1.0;
-      scale_h' = leb-true _ _ h.1.1.1.1.1.1.1.1.1.1.1.1.1.1.1.0;
-      scale_w' = leb-true _ _ h.1.1.1.1.1.1.1.1.1.1.1.1.1.1.1.1.0;
-      bilerp = leb-true _ _ h.1.1.1.1.1.1.1.1.1.1.1.1.1.1.1.1.1.0;
-      split = leb-true _ _ h.1.1.1.1.1.1.1.1.1.1.1.1.1.1.1.1.1.1.0;
-      x = small_below 12 (get_or ws 9 0) (omega arith) (leb-true _ _ h.1.1.1.1.1.1.1.1.1.1.1.1.1.1.1.1.1.1.1.0);
-      x_end = small_below 14 (get_or ws 10 0) (omega arith) (leb-true _ _ h.1.1.1.1.1.1.1.1.1.1.1.1.1.1.1.1.1.1.1.1.0);
+      line = (within_yes _ _ _ h.1.1.1.0).0;
+      line' = (within_yes _ _ _ h.1.1.1.0).1;
+      image_rows = (within_yes _ _ _ h.1.1.1.1.0).0;
+      image_rows' = (within_yes _ _ _ h.1.1.1.1.0).1;
+      frame_rows = (within_yes _ _ _ h.1.1.1.1.1.0).0;
+      frame_rows' = (within_yes _ _ _ h.1.1.1.1.1.0).1;
+      stride = (within_yes _ _ _ h.1.1.1.1.1.1.0).0;
+      stride' = (within_yes _ _ _ h.1.1.1.1.1.1.0).1;
+      x_offset = leb-true _ _ h.1.1.1.1.1.1.1.0;
+      source_rows = (within_yes _ _ _ h.1.1.1.1.1.1.1.1.0).0;
+      source_rows' = (within_yes _ _ _ h.1.1.1.1.1.1.1.1.0).1;
+      scale_h = (within_yes _ _ _ h.1.1.1.1.1.1.1.1.1.0).0;
+      scale_h' = (within_yes _ _ _ h.1.1.1.1.1.1.1.1.1.0).1;
+      scale_w' = leb-true _ _ h.1.1.1.1.1.1.1.1.1.1.0;
+      bilerp = leb-true _ _ h.1.1.1.1.1.1.1.1.1.1.1.0;
+      split = leb-true _ _ h.1.1.1.1.1.1.1.1.1.1.1.1.0;
+      x = small_below 12 (get_or ws 9 0) (omega arith) (leb-true _ _ h.1.1.1.1.1.1.1.1.1.1.1.1.1.0);
+      x_end = small_below 14 (get_or ws 10 0) (omega arith) (leb-true _ _ h.1.1.1.1.1.1.1.1.1.1.1.1.1.1.0);
     }
 
 pub part_yes : (ws : List ℕ) → scaled_test ws ≡ true → Below 5 (walk_from ws).t.0
 unfolding scaled_test walk_from
-part_yes ws t = let h = all_yes (leb (get_or ws 5 0) 255) (scaled_tests ws) t in small_below 5 (get_or ws 26 0) (omega arith) (leb-true _ _ h.1.1.1.1.1.1.1.1.1.1.1.1.1.1.1.1.1.1.1.1.1)
+part_yes ws t = let h = all_yes (leb (get_or ws 5 0) 255) (scaled_tests ws) t in small_below 5 (get_or ws 26 0) (omega arith) (leb-true _ _ h.1.1.1.1.1.1.1.1.1.1.1.1.1.1.1)
 
 pub scaled_no : (s : Stage) (p : Place) (n : Counts) → SoundScaled p.scaled → Below 5 p.walk.t.0 → scaled_test (scaled_words s p n) ≡ true
 unfolding scaled_test scaled_words
-scaled_no s p n h t = all_no (leb p.scaled.fmt 255) (scaled_tests (scaled_words s p n)) (le-leb _ _ h.fmt, (le-leb _ _ h.siz, (le-leb _ _ h.palette, (le-leb _ _ h.line, (le-leb _ _ h.line', (le-leb _ _ h.image_rows, (le-leb _ _ h.image_rows', (le-leb _ _ h.frame_rows, (le-leb _ _ h.frame_rows', (le-leb _ _ h.stride, (le-leb _ _ h.stride', (le-leb _ _ h.x_offset, (le-leb _ _ h.source_rows, (le-leb _ _ h.source_rows', (le-leb _ _ h.scale_h, (le-leb _ _ h.scale_h', (le-leb _ _ h.scale_w', (le-leb _ _ h.bilerp, (le-leb _ _ h.split, (le-leb _ _ (below_small h.x), (le-leb _ _ (below_small h.x_end), le-leb _ _ (below_small t))))))))))))))))))))))
+scaled_no s p n h t = all_no (leb p.scaled.fmt 255) (scaled_tests (scaled_words s p n)) (le-leb _ _ h.fmt, (le-leb _ _ h.siz, (le-leb _ _ h.palette, (within_no _ _ _ h.line h.line', (within_no _ _ _ h.image_rows h.image_rows', (within_no _ _ _ h.frame_rows h.frame_rows', (within_no _ _ _ h.stride h.stride', (le-leb _ _ h.x_offset, (within_no _ _ _ h.source_rows h.source_rows', (within_no _ _ _ h.scale_h h.scale_h', (le-leb _ _ h.scale_w', (le-leb _ _ h.bilerp, (le-leb _ _ h.split, (le-leb _ _ (below_small h.x), (le-leb _ _ (below_small h.x_end), le-leb _ _ (below_small t))))))))))))))))
 
 -- ---- a walk before a pass
 
@@ -78,7 +78,7 @@ walk_yes w b t =
     record {
       frame_y = leb-true _ _ h.1.1.0;
       lines = leb-true _ _ h.0;
-      count = not_below w.count (leb-true _ _ h.1.1.1.0);
+      count = not_below w.count (eqb-true _ _ h.1.1.1.0);
       count' = le_at w.count (2 ^ 31) (leb-true _ _ h.1.0);
       slice_rows = ge_at w.slice_rows (2 ^ 27) (leb-true _ _ h.1.1.1.1.0);
       slice_rows' = le_at w.slice_rows 512 (leb-true _ _ h.1.1.1.1.1.0);
@@ -91,7 +91,7 @@ walk_no : (w : Walk) → SoundWalk w → walk_test w ≡ true
 unfolding walk_test
 walk_no w s =
     all_no (leb (up w.frame_remain) 1023) (walk_tests w)
-    (le-leb _ _ s.lines, (le-leb _ _ (at_le w.count (2 ^ 31) s.count'), (le-leb _ _ s.frame_y, (le-leb _ _ (below_not w.count s.count), (le-leb _ _ (at_ge w.slice_rows (2 ^ 27) s.slice_rows), (le-leb _ _ (at_le w.slice_rows 512 s.slice_rows'), (le-leb _ _ s.low, le-leb _ _ s.high)))))))
+    (le-leb _ _ s.lines, (le-leb _ _ (at_le w.count (2 ^ 31) s.count'), (le-leb _ _ s.frame_y, (eq-eqb _ _ (below_not w.count s.count), (le-leb _ _ (at_ge w.slice_rows (2 ^ 27) s.slice_rows), (le-leb _ _ (at_le w.slice_rows 512 s.slice_rows'), (le-leb _ _ s.low, le-leb _ _ s.high)))))))
 
 -- ---- a pass that draws: its lines, and its rows where another pass follows, are those of the walk
 
@@ -283,10 +283,6 @@ start_at_lem stage.Rect p h = record { scaled = h.pass.scaled; walk = h.pass.wal
 pub few_lines : (s : Stage) (ws : List ℕ) → stage_test s ws ≡ true → up (signed_at ws 23) ≤ 1023
 unfolding place_from walk_from
 few_lines s ws t = (start_at_lem s (place_from ws) (stage_yes s ws t)).walk.lines
-
-pub few_frame_rows : (ws : List ℕ) → at_pass ws ≡ true → get_or ws 18 0 ≤ 2 ^ 29
-unfolding place_from scaled_from
-few_frame_rows ws t = (made_pass ws t).scaled.frame_rows'
 
 -- ---- what was stored comes back, and passes the test
 

@@ -15,7 +15,7 @@ use Rattle.loads.specs.declared.types.Piece.TheVariants as piece
 use Rattle.loads.specs.declared.types.Stage.{Stage}
 use Rattle.loads.specs.declared.types.Stage.TheVariants as stage
 use Rattle.loads.specs.declared.types.Place.{Place}
-use Rattle.stored_fields.specs.Test.{all_of}
+use Rattle.stored_fields.specs.Test.{all_of, within}
 use Rattle.stored_fields.specs.Signed.{signed_at}
 
 -- ---- the words: the stage, the counts, and the place's numbers in their order, signed ones modulo 2^64
@@ -121,9 +121,9 @@ place_from ws =
 
 abbrev pub scaled_tests : List ℕ → List Bool
 scaled_tests ws =
-    leb (get_or ws 6 0) 3 ∷ leb (get_or ws 7 0) 255 ∷ leb 1 (get_or ws 16 0) ∷ leb (get_or ws 16 0) 512 ∷ leb 1 (get_or ws 17 0) ∷ leb (get_or ws 17 0) 512
-    ∷ leb 16 (get_or ws 18 0) ∷ leb (get_or ws 18 0) (2 ^ 29) ∷ leb 8 (get_or ws 19 0) ∷ leb (get_or ws 19 0) 65535 ∷ leb (get_or ws 20 0) 65535
-    ∷ leb 1 (get_or ws 15 0) ∷ leb (get_or ws 15 0) 16383 ∷ leb 1 (get_or ws 12 0) ∷ leb (get_or ws 12 0) 65535 ∷ leb (get_or ws 11 0) 65535
+    leb (get_or ws 6 0) 3 ∷ leb (get_or ws 7 0) 255 ∷ within 1 512 (get_or ws 16 0) ∷ within 1 512 (get_or ws 17 0)
+    ∷ within 16 (2 ^ 29) (get_or ws 18 0) ∷ within 8 65535 (get_or ws 19 0) ∷ leb (get_or ws 20 0) 65535
+    ∷ within 1 16383 (get_or ws 15 0) ∷ within 1 65535 (get_or ws 12 0) ∷ leb (get_or ws 11 0) 65535
     ∷ leb (get_or ws 13 0) 1 ∷ leb (get_or ws 14 0) 1 ∷ leb (get_or ws 9 0) 4095 ∷ leb (get_or ws 10 0) 16383 ∷ leb (get_or ws 26 0) 31 ∷ []
 
 unfoldable pub scaled_test : List ℕ → Bool
@@ -131,7 +131,7 @@ scaled_test ws = all_of (leb (get_or ws 5 0) 255) (scaled_tests ws)
 
 abbrev pub walk_tests : Walk → List Bool
 walk_tests w =
-    leb (up w.count) (2 ^ 31) ∷ leb (w.frame_y + up w.frame_remain) 4096 ∷ leb (dn w.count) 0 ∷ leb (dn w.slice_rows) (2 ^ 27) ∷ leb (up w.slice_rows) 512
+    leb (up w.count) (2 ^ 31) ∷ leb (w.frame_y + up w.frame_remain) 4096 ∷ eqb (dn w.count) 0 ∷ leb (dn w.slice_rows) (2 ^ 27) ∷ leb (up w.slice_rows) 512
     ∷ leb (dn w.source.remain + 1280000 * up w.frame_remain) (2 ^ 40 + 20000 * (up w.count / 16)) ∷ leb (up w.source.remain + dn w.slice_rows) (2 ^ 28) ∷ []
 
 unfoldable pub walk_test : Walk → Bool

@@ -10,8 +10,7 @@ ghost use Rattle.stored_scaled.specs.Course.{stage_word, piece_word, scaled_word
 use loads::{Part, Piece, Place, Stage};
 use measures::{Quarters, Scale, ThirtySeconds, quarters, thirty_seconds};
 use plan::{Scaled, Source, Walk};
-use signed::word_of;
-use stored_fields::{State, above, below, room, signed_of};
+use stored_fields::{State, above, below, room};
 use words::Counts;
 
 fn stage_word(s: Stage) -> u64
@@ -31,28 +30,8 @@ pub fn scaled_words(stage: Stage, p: Place, n: Counts) -> State
 {
     let z = p.scaled;
     let w = p.walk;
-    let source = w.source;
-    let part = p.part;
-    let next = p.next;
-    let piece = p.piece;
-    let t = z.s;
-    let k = stage_word(stage);
-    let x = quarters(z.x);
-    let x_end = quarters(z.x_end);
-    let row_part = thirty_seconds(w.t);
-    let s = word_of(t.0);
-    let remain = word_of(w.frame_remain);
-    let count = word_of(w.count);
-    let slice_rows = word_of(w.slice_rows);
-    let source_remain = word_of(source.remain);
-    let rows = word_of(p.rows);
-    let part_rows = word_of(part.rows);
-    let destination = word_of(part.destination);
-    let width = word_of(part.width);
-    let next_remain = word_of(next.remain);
-    let piece = piece_word(piece);
     [
-        k,
+        stage_word(stage),
         n.entries,
         n.rectangles,
         n.words,
@@ -61,8 +40,8 @@ pub fn scaled_words(stage: Stage, p: Place, n: Counts) -> State
         z.siz,
         z.palette,
         z.address,
-        x,
-        x_end,
+        quarters(z.x),
+        quarters(z.x_end),
         z.scale_w.0,
         z.scale_h.0,
         z.bilerp,
@@ -73,24 +52,24 @@ pub fn scaled_words(stage: Stage, p: Place, n: Counts) -> State
         z.frame_rows,
         z.stride,
         z.x_offset,
-        s,
+        z.s.0.cast_unsigned(),
         w.frame_y,
-        remain,
-        count,
-        slice_rows,
-        row_part,
-        source.pointer,
-        source_remain,
-        rows,
+        w.frame_remain.cast_unsigned(),
+        w.count.cast_unsigned(),
+        w.slice_rows.cast_unsigned(),
+        thirty_seconds(w.t),
+        w.source.pointer,
+        w.source.remain.cast_unsigned(),
+        p.rows.cast_unsigned(),
         p.lines,
-        part.pointer,
-        part_rows,
-        destination,
-        width,
+        p.part.pointer,
+        p.part.rows.cast_unsigned(),
+        p.part.destination.cast_unsigned(),
+        p.part.width.cast_unsigned(),
         p.spare,
-        next.pointer,
-        next_remain,
-        piece,
+        p.next.pointer,
+        p.next.remain.cast_unsigned(),
+        piece_word(p.piece),
     ]
 }
 
@@ -124,14 +103,10 @@ fn piece_from(k: u64) -> Piece
     }
 }
 
+#[tactic(auto, unfolding(crate::specs::Course::scaled_from))]
 fn scaled_from(words: &State) -> Scaled
     ensures { result ≡ scaled_from words.now }
 {
-    let x = Quarters(signed_of(words[9]));
-    let x_end = Quarters(signed_of(words[10]));
-    let s = ThirtySeconds(signed_of(words[21]));
-    let scale_w = Scale(words[11]);
-    let scale_h = Scale(words[12]);
     Scaled {
         source_rows: words[15],
         line: words[16],
@@ -145,70 +120,56 @@ fn scaled_from(words: &State) -> Scaled
         fmt: words[5],
         siz: words[6],
         palette: words[7],
-        x,
-        x_end,
-        s,
-        scale_w,
-        scale_h,
+        x: Quarters(words[9].cast_signed()),
+        x_end: Quarters(words[10].cast_signed()),
+        s: ThirtySeconds(words[21].cast_signed()),
+        scale_w: Scale(words[11]),
+        scale_h: Scale(words[12]),
     }
 }
 
+#[tactic(auto, unfolding(crate::specs::Course::walk_from))]
 fn walk_from(words: &State) -> Walk
     ensures { result ≡ walk_from words.now }
 {
-    let frame_remain = signed_of(words[23]);
-    let count = signed_of(words[24]);
-    let slice_rows = signed_of(words[25]);
-    let t = ThirtySeconds(signed_of(words[26]));
-    let remain = signed_of(words[28]);
-    let source = Source {
-        pointer: words[27],
-        remain,
-    };
     Walk {
         frame_y: words[22],
-        frame_remain,
-        count,
-        slice_rows,
-        t,
-        source,
+        frame_remain: words[23].cast_signed(),
+        count: words[24].cast_signed(),
+        slice_rows: words[25].cast_signed(),
+        t: ThirtySeconds(words[26].cast_signed()),
+        source: Source {
+            pointer: words[27],
+            remain: words[28].cast_signed(),
+        },
     }
 }
 
+#[tactic(auto, unfolding(crate::specs::Course::place_from))]
 pub fn place_from(words: &State) -> Place
     ensures { result ≡ place_from words.now }
 {
-    let scaled = scaled_from(words);
-    let walk = walk_from(words);
-    let rows = signed_of(words[29]);
-    let part_rows = signed_of(words[32]);
-    let destination = signed_of(words[33]);
-    let width = signed_of(words[34]);
-    let remain = signed_of(words[37]);
-    let piece = piece_from(words[38]);
-    let part = Part {
-        pointer: words[31],
-        rows: part_rows,
-        destination,
-        width,
-    };
-    let next = Source {
-        pointer: words[36],
-        remain,
-    };
     Place {
-        scaled,
-        walk,
-        rows,
+        scaled: scaled_from(words),
+        walk: walk_from(words),
+        rows: words[29].cast_signed(),
         lines: words[30],
-        part,
+        part: Part {
+            pointer: words[31],
+            rows: words[32].cast_signed(),
+            destination: words[33].cast_signed(),
+            width: words[34].cast_signed(),
+        },
         spare: words[35],
-        next,
-        piece,
+        next: Source {
+            pointer: words[36],
+            remain: words[37].cast_signed(),
+        },
+        piece: piece_from(words[38]),
     }
 }
 
-// What no pass changes, and the walk's part of a row.
+// What no pass changes, and the walk's part of a row. Here and below tests are joined by `&` and `|`, without a short circuit: none has an effect, and none can fail, as the factors of each product are tested before it; so the compiler is free to order and to join them, and makes one branch of many.
 #[tactic(auto, unfolding(crate::specs::Course::scaled_test))]
 fn scaled_sound(words: &State) -> bool
     ensures { result ≡ scaled_test words.now }
@@ -216,19 +177,13 @@ fn scaled_sound(words: &State) -> bool
     (words[5] <= 255)
         & (words[6] <= 3)
         & (words[7] <= 255)
-        & (1 <= words[16])
-        & (words[16] <= 512)
-        & (1 <= words[17])
-        & (words[17] <= 512)
-        & (16 <= words[18])
-        & (words[18] <= 0x2000_0000)
-        & (8 <= words[19])
-        & (words[19] <= 65535)
+        & (1..=512).contains(&words[16])
+        & (1..=512).contains(&words[17])
+        & (16..=0x2000_0000).contains(&words[18])
+        & (8..=65535).contains(&words[19])
         & (words[20] <= 65535)
-        & (1 <= words[15])
-        & (words[15] <= 16383)
-        & (1 <= words[12])
-        & (words[12] <= 65535)
+        & (1..=16383).contains(&words[15])
+        & (1..=65535).contains(&words[12])
         & (words[11] <= 65535)
         & (words[13] <= 1)
         & (words[14] <= 1)
@@ -237,31 +192,30 @@ fn scaled_sound(words: &State) -> bool
         & (words[26] <= 31)
 }
 
+#[tactic(auto, unfolding(crate::specs::Course::walk_from, crate::specs::Course::walk_test))]
 fn walk_sound(words: &State) -> bool
     ensures { result ≡ walk_test (walk_from words.now) }
 {
     let lines = above(words[23]);
     let count = above(words[24]);
-    if 1023 < lines {
-        return false;
-    }
-    if 0x8000_0000 < count {
-        return false;
-    }
     let less = below(words[25]);
-    room(words[22], lines, 4096)
-        & (below(words[24]) <= 0)
-        & (less <= 0x800_0000)
-        & (above(words[25]) <= 512)
-        & room(
-            below(words[28]),
-            1280000 * lines,
-            0x100_0000_0000 + 20000 * (count / 16),
-        )
-        & room(above(words[28]), less, 0x1000_0000)
+    // First what the sums are made of, so that none overflows.
+    lines <= 1023
+        && count <= 0x8000_0000
+        && (room(words[22], lines, 4096)
+            & (below(words[24]) == 0)
+            & (less <= 0x800_0000)
+            & (above(words[25]) <= 512)
+            & room(
+                below(words[28]),
+                1280000 * lines,
+                0x100_0000_0000 + 20000 * (count / 16),
+            )
+            & room(above(words[28]), less, 0x1000_0000))
 }
 
 // The rows are those of the walk where another pass follows.
+#[tactic(auto, unfolding(crate::specs::Course::place_from, crate::specs::Course::walk_from))]
 fn whole_sound(words: &State) -> bool
     ensures { result ≡ whole_test (place_from words.now) }
 {
@@ -269,6 +223,7 @@ fn whole_sound(words: &State) -> bool
         | ((above(words[29]) == above(words[25])) & (below(words[29]) == below(words[25])))
 }
 
+#[tactic(auto, unfolding(crate::specs::Course::place_from, crate::specs::Course::walk_from, crate::specs::Course::pass_test))]
 fn pass_sound(words: &State) -> bool
     ensures { result ≡ pass_test (place_from words.now) }
 {
@@ -282,6 +237,7 @@ fn pass_sound(words: &State) -> bool
         & whole_sound(words)
 }
 
+#[tactic(auto, unfolding(crate::specs::Course::place_from, crate::specs::Course::piece_test))]
 fn piece_sound(words: &State) -> bool
     ensures { result ≡ piece_test (place_from words.now).part }
 {
@@ -291,6 +247,7 @@ fn piece_sound(words: &State) -> bool
         & (above(words[34]) <= 0x7fff_ffff_ffff)
 }
 
+#[tactic(auto, unfolding(crate::specs::Course::place_from, crate::specs::Course::scaled_from, crate::specs::Course::walk_from, crate::specs::Course::rect_test))]
 fn rect_sound(words: &State) -> bool
     requires { (up (signed_at words.now 23) ≤ 1023) × (get_or words.now 18 0 ≤ 2 ^ 29) }
     ensures { result ≡ rect_test (place_from words.now) }
@@ -325,13 +282,11 @@ fn at_piece(words: &State) -> bool
     at_pass(words) & piece_sound(words)
 }
 
+#[tactic(auto, unfolding(crate::specs::Course::place_from, crate::specs::Course::walk_from, crate::specs::Course::scaled_test, crate::specs::Course::walk_test))]
 fn at_rect(words: &State) -> bool
     ensures { result ≡ at_rect words.now }
 {
-    if !at_pass(words) {
-        return false;
-    }
-    rect_sound(words)
+    at_pass(words) && rect_sound(words)
 }
 
 // What a step asks of the place, by its stage.

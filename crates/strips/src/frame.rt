@@ -25,7 +25,7 @@ fn near(frame: Quarters, low: Quarters) -> Quarters
     requires { (Within 15 frame.0) × Below 12 low.0 }
     ensures { (result ≡ in_quarters (pos (max (quarters frame) (quarters low)))) × Below 15 result.0 }
 {
-    Quarters(frame.0.max(low.0))
+    frame.max(low)
 }
 
 // The cells from the near edge to the far one, which is the frame's or the scissor's.
@@ -34,8 +34,7 @@ fn cells_in(frame: Quarters, size: Quarters, high: Quarters, near: Quarters) -> 
     requires below { (Below 12 high.0) × Below 15 near.0 }
     ensures { result ≡ texels (up (min_z (frame.0 +ℤ size.0) high.0 -ℤ near.0)) }
 {
-    let end = (frame.0 + size.0).min(high.0);
-    measures::texels(Quarters(end - near.0))
+    measures::texels((frame + size).min(high) - near)
 }
 
 // The cells of the frame before the near edge.
@@ -43,7 +42,7 @@ fn cells_before(frame: Quarters, near: Quarters) -> u64
     requires { (Within 15 frame.0) × Below 15 near.0 }
     ensures { AtMost (texels (up (near.0 -ℤ frame.0))) 16383 result }
 {
-    measures::texels(Quarters(near.0 - frame.0))
+    measures::texels(near - frame)
 }
 
 fn axis_of(frame: Quarters, size: Quarters, low: i32, high: i32) -> Axis
@@ -76,36 +75,25 @@ pub fn copy_of(bg: ObjBg, scissor: Scissor, address: u64) -> Copy
 {
     let across = axis_of(bg.frame_x, bg.frame_w, scissor.ulx, scissor.lrx);
     let down = axis_of(bg.frame_y, bg.frame_h, scissor.uly, scissor.lry);
-    let image_width = measures::texels(bg.image_w);
-    let image_height = measures::texels(bg.image_h);
-    let frame_cells = measures::texels(bg.frame_w);
-    let source_x = measures::whole_texels(bg.image_x);
-    let source_y = measures::whole_texels(bg.image_y) + down.skip;
-    let capacity = capacity::copy_capacity(bg.image_fmt, bg.image_siz);
-    let texels_per_word = texels_per_word(bg.image_siz);
-    let palette = signed::low8(bg.image_pal);
-    let rows = measures::strip_lines(bg.tmem_h);
-    let left = across.edge;
-    let top = down.edge;
     Copy {
-        fmt: u64::from(bg.image_fmt),
-        siz: u64::from(bg.image_siz),
-        palette: u64::from(palette),
-        flip: bg.image_flip % 2 == 1,
+        fmt: bg.image_fmt.into(),
+        siz: bg.image_siz.into(),
+        palette: signed::low8(bg.image_pal).into(),
+        flip: bg.flipped(),
         address,
-        rows,
-        image_width,
-        image_height,
-        frame_cells,
-        left,
-        top,
+        rows: measures::strip_lines(bg.tmem_h),
+        image_width: measures::texels(bg.image_w),
+        image_height: measures::texels(bg.image_h),
+        frame_cells: measures::texels(bg.frame_w),
+        left: across.edge,
+        top: down.edge,
         width: across.cells,
         height: down.cells,
-        source_x,
-        source_y,
+        source_x: measures::whole_texels(bg.image_x),
+        source_y: measures::whole_texels(bg.image_y) + down.skip,
         x_skip: across.skip,
-        capacity,
-        texels_per_word,
+        capacity: capacity::copy_capacity(bg.image_fmt, bg.image_siz),
+        texels_per_word: texels_per_word(bg.image_siz),
     }
 }
 

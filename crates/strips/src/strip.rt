@@ -7,6 +7,8 @@ ghost use Rattle.strips.specs.Strip.{Less, Room, Aligned, width_of, left_of, lin
 
 use plan::{Copy, Strip};
 
+// That a cell lies in its frame stands in clauses: a type for it would hold the frame, and be made anew at each strip.
+
 // The image column of cell x; a flipped frame counts from its right end.
 pub fn column_at(c: Copy, x: u64) -> u64
     requires sound_copy { SoundCopy c }

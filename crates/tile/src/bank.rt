@@ -49,17 +49,7 @@ fn replaced(old: Tile, tile: Tile) -> Tile
         lrt: old.lrt,
         width: old.width,
         height: old.height,
-        fmt: tile.fmt,
-        siz: tile.siz,
-        palette: tile.palette,
-        cms: tile.cms,
-        cmt: tile.cmt,
-        masks: tile.masks,
-        maskt: tile.maskt,
-        shifts: tile.shifts,
-        shiftt: tile.shiftt,
-        line: tile.line,
-        tmem_addr: tile.tmem_addr,
+        ..tile
     }
 }
 

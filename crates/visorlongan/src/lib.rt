@@ -8,7 +8,7 @@
 // The object and the plan may have any length. A call with another number of words in one of the others answers 1 and changes nothing.
 // A call that answers 0 has done all of its work: nothing is kept from one call to the next.
 //
-// What is written is tested by its length and stays a slice: the conversion to an array that may be written promises nothing of the slice afterwards, refused or not. The bank goes on as a slice, since the functions below take one of any length.
+// Lengths stand as numbers in the types: the table above says what each is.
 #![tactic(auto)]
 
 ghost use Rattle.std.specs.Prelude.{◌≡◌};
@@ -16,14 +16,7 @@ ghost use Rattle.visorlongan.specs.Host.{left, host_run, counted, host_count, ho
 ghost use Rattle.applying.specs.Applied.{applied};
 ghost use Rattle.version.specs.Version.{version_of};
 
-use applying::NoEntry;
 use request::Request;
-
-const BANK: usize = 136;
-
-const ENTRY: usize = 11;
-
-const END: usize = 4;
 
 // A whole run: the entries go to `plan`, eleven words each, and what they set of the tiles goes to `bank`. All other words stay as they are.
 pub fn visor_run(
@@ -38,14 +31,14 @@ pub fn visor_run(
     let Ok(q) = Request::try_from(request) else {
         return 1;
     };
-    if bank.len() != BANK {
+    let Some(bank) = bank.as_mut_array::<136>() else {
         return 1;
-    }
-    if end.len() != END {
+    };
+    let Some(end) = end.as_mut_array() else {
         return 1;
-    }
-    let ended = runs::run(object, q, &mut *bank, &mut *plan);
-    end.copy_from_slice(&giving::end_numbers(ended));
+    };
+    let ended = runs::run(object, q, bank, plan);
+    *end = giving::end_numbers(ended);
     0
 }
 
@@ -56,11 +49,11 @@ pub fn visor_count(object: &[u8], request: &[u64], end: &mut [u64]) -> u64
     let Ok(q) = Request::try_from(request) else {
         return 1;
     };
-    if end.len() != END {
+    let Some(end) = end.as_mut_array() else {
         return 1;
-    }
+    };
     let ended = runs::count(object, q);
-    end.copy_from_slice(&giving::end_numbers(ended));
+    *end = giving::end_numbers(ended);
     0
 }
 
@@ -68,15 +61,12 @@ pub fn visor_count(object: &[u8], request: &[u64], end: &mut [u64]) -> u64
 pub fn visor_apply(entry: &[u64], bank: &mut [u64]) -> u64
     ensures { applied result bank.new ≡ host_apply entry.now bank.old }
 {
-    let Ok(entry) = <&[u64; ENTRY]>::try_from(entry) else {
+    let Some(entry) = entry.as_array() else {
         return 1;
     };
-    if bank.len() != BANK {
-        return 1;
-    }
-    match applying::apply(&mut *bank, entry) {
-        Ok(()) => 0,
-        Err(NoEntry) => 1,
+    match bank.as_mut_array::<136>() {
+        Some(bank) => u64::from(applying::apply(bank, entry).is_err()),
+        None => 1,
     }
 }
 

@@ -1,6 +1,5 @@
 // The entries of a pass: tiles, texture image, load and rectangle.
-ghost use Rattle.std.specs.Prelude.{◌≡◌, cond, ◌/◌, ◌≤◌, ◌^◌, eqb, pos, ◌-ℤ◌};
-ghost use Rattle.signed.specs.Cast.{u16, i16};
+ghost use Rattle.std.specs.Prelude.{◌≡◌, cond, ◌≤◌, ◌^◌, eqb};
 ghost use Rattle.measures.specs.Measure.{quarters, of_texels};
 ghost use Rattle.measures.specs.Range.{Below, Within};
 ghost use Rattle.plan.specs.Sound.{SoundScaled};
@@ -8,18 +7,21 @@ ghost use Rattle.plan.specs.Scaled.{tile7 as tile7_of, lrs_of, lrt_of, rect_of};
 ghost use Rattle.loads.specs.Coming.{tile0 as tile0_of, image_of, rows_out};
 ghost use Rattle.loads.specs.Sound.{SoundPass, SoundPart, loaded_out};
 
+use loading::width_field;
 use loads::{Part, Place, Refused};
 use measures::Quarters;
 use plan::{Entry, Scaled};
+use signed::signed16;
 use tile::Bounds;
 
-// The loads' texels are of 16 bits, or of 32 for siz 3.
+// The loads' texels are of 16 bits, or of 32 for siz 3. Here too siz stays a number, as the entries have it (load_tile's `words_in` has the reason).
 fn load_size(siz: u64) -> u64
     ensures { (result ≡ cond (eqb siz 3) 3 2) × (result ≤ 3) }
 {
     if siz == 3 { 3 } else { 2 }
 }
 
+// A tile's line is cut to its field of 16 bits, by a remainder: a word stays a word, and a cast must not lose bits. A destination is a signed number, so `low16` cuts it.
 pub fn tile7(z: Scaled, destination: i64) -> Entry
     ensures { result ≡ tile7_of z destination }
 {
@@ -54,14 +56,6 @@ pub fn tile0(z: Scaled) -> Entry
     }
 }
 
-// The width field of the loads' texture image.
-fn width_field(stride: u64) -> u16
-    requires { stride ≤ 65535 }
-    ensures { result ≡ u16 (pos (stride / 2) -ℤ pos 1) }
-{
-    signed::low16((stride / 2) as i64 - 1)
-}
-
 pub fn image(z: Scaled, pointer: u64) -> Entry
     requires { SoundScaled z }
     ensures { result ≡ image_of z pointer }
@@ -69,7 +63,7 @@ pub fn image(z: Scaled, pointer: u64) -> Entry
     Entry::Image {
         fmt: 0,
         siz: load_size(z.siz),
-        width: u64::from(width_field(z.stride)),
+        width: u64::from(width_field(z.stride / 2)),
         address: pointer,
     }
 }
@@ -101,24 +95,14 @@ pub fn load(z: Scaled, q: Part) -> Result<Entry, Refused>
     requires sound_part { SoundPart q }
     ensures { loaded_out result ≡ rows_out z q }
 {
-    let lrs = right(q.width);
-    let lrt = lower(z, q.rows);
-    let field = width_field(z.stride);
     let siz = load_size(z.siz) as u8;
     let bounds = Bounds {
         uls: 0,
         ult: 0,
-        lrs,
-        lrt,
+        lrs: right(q.width),
+        lrt: lower(z, q.rows),
     };
-    loading::tile7_load(siz, field, q.pointer, bounds).map_err(Refused)
-}
-
-// A texture coordinate or a step, cut to its 16 bits.
-fn short(x: i64) -> i64
-    ensures { result ≡ i16 x }
-{
-    i64::from(signed::signed16(x))
+    loading::tile7_load(siz, width_field(z.stride / 2), q.pointer, bounds).map_err(Refused)
 }
 
 // A frame position that is known not to be negative, so that no test is needed.
@@ -137,7 +121,7 @@ fn line_at(line: u64) -> u64
     position(measures::of_texels(line as i64))
 }
 
-// The rectangle of a pass, with the image row before its loads.
+// The rectangle of a pass, with the image row before its loads; texture coordinates and steps are cut to their 16 bits.
 pub fn rect(p: Place) -> Entry
     requires { SoundPass p }
     ensures { result ≡ rect_of p.scaled p.walk p.lines }
@@ -151,10 +135,10 @@ pub fn rect(p: Place) -> Entry
         uly: line_at(w.frame_y),
         lrx: position(z.x_end),
         lry: line_at(w.frame_y + p.lines),
-        uls: short(z.s.0),
-        ult: short(w.t.0),
-        dsdx: short(z.scale_w.0 as i64),
-        dtdy: short(z.scale_h.0 as i64),
+        uls: signed16(z.s.0),
+        ult: signed16(w.t.0),
+        dsdx: signed16(z.scale_w.0 as i64),
+        dtdy: signed16(z.scale_h.0 as i64),
         row: signed::wrapped(rows, z.source_rows),
     }
 }

@@ -8,7 +8,7 @@ ghost use Rattle.plan.specs.Scaled.{draw_of, next_pass, after_draw};
 ghost use Rattle.loads.specs.Coming.{passes_of};
 ghost use Rattle.loads.specs.Sound.{SoundWalk, SoundRect, Runs, Begins, cut_lines, cut_rows, due_lines};
 
-use loads::{Begun, Piece, Place, advance, forward, less, plus, sum, times};
+use loads::{Begun, Piece, Place, advance, forward, less, plus, times};
 use measures::ThirtySeconds;
 use object::Verdict;
 use plan::{Scaled, Source, Walk};
@@ -57,7 +57,7 @@ fn cut_rows(z: Scaled, rows: i64, left: i64) -> i64
 {
     if left < 0 {
         let over = measures::signed_whole(times(left, z.scale_h.0));
-        plus(sum(rows, over), 1).min(z.image_rows as i64)
+        plus(rows + over, 1).min(z.image_rows as i64)
     } else {
         rows
     }

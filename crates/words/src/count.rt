@@ -26,10 +26,8 @@ pub fn counted(n: Counts, e: Entry) -> Counts
     let mut next = n;
     next.entries = n.entries + 1;
     match e {
-        Entry::Tile { index, line, .. } => {
-            if index == 7 {
-                next.line = line;
-            }
+        Entry::Tile { index: 7, line, .. } => {
+            next.line = line;
         }
         Entry::Load { rows, .. } => {
             next.words = n.words.max(rows * n.line);
@@ -37,7 +35,7 @@ pub fn counted(n: Counts, e: Entry) -> Counts
         Entry::Rect { .. } => {
             next.rectangles = n.rectangles + 1;
         }
-        Entry::Image { .. } | Entry::Size { .. } => {}
+        Entry::Image { .. } | Entry::Tile { .. } | Entry::Size { .. } => {}
     }
     next
 }

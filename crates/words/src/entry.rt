@@ -8,7 +8,7 @@ use plan::{End, Entry};
 use signed::word_of;
 use tile::{Bank, Bounds, Tile, size_set, tile_set};
 
-// The words of each kind: its number, what it gives, signed numbers modulo 2^64, then zeros. Each takes up to ten numbers and no struct: a kind's numbers are the variant's own in every definition.
+// The words of each kind: its number, what it gives, signed numbers modulo 2^64, then zeros. Each takes up to ten numbers and no struct, as the definitions do. An entry is eleven words here and wherever plans are words: a number, as docs/SPECIFICATION.md and the header have it.
 
 #[tactic(auto, unfolding(plan::specs::Run::entry_words))]
 pub fn image_words(fmt: u64, siz: u64, width: u64, address: u64) -> [u64; 11]
@@ -93,7 +93,7 @@ pub fn rect_words(
     ]
 }
 
-// An entry's eleven words.
+// An entry's eleven words. By name and no From, as an end's below: the types and the definitions of their words lie in a lower crate.
 pub fn entry_words(e: Entry) -> [u64; 11]
     ensures { result ≡ entry_words e }
 {
@@ -171,7 +171,7 @@ pub fn end_words(end: End) -> [u64; 11]
     ]
 }
 
-// The tile that an entry names. Its bounds are not read: setting a tile keeps them.
+// The tile that an entry names. Its bounds are not read: setting a tile keeps them. Written out in full: a default would be another definition, for eight numbers that stand here once.
 fn described(
     fmt: u8,
     siz: u8,

@@ -1,9 +1,8 @@
 -- A call's text is out and the rest is to come: the pieces joined are the whole text.
-use Rattle.std.proofs.Common.{arith, refl, sym, ap, ◌∙◌, ◌≡◌, [], ◌++◌, List, ℕ, Bool, true, false, take, append_assoc, append-nil, subst}
-use Rattle.std.proofs.lemmas.List.{length-replicate}
+use Rattle.std.proofs.Common.{arith, sym, ap, ◌∙◌, ◌≡◌, ◌++◌, List, ℕ, Bool, true, false, take, append_assoc, append-nil, subst}
 use Rattle.std.specs.Option.{is_some}
 use Rattle.std.specs.Io.KnownBytes.{Appends}
-use Rattle.std.proofs.KnownBytes.{Appends-nil, Appends-trans}
+use Rattle.std.proofs.KnownBytes.{Appends-trans}
 use Rattle.planner.specs.Planner.{Planner}
 use Rattle.planner.specs.Coming.{coming}
 use Rattle.show.specs.declared.text.Chunk.{Chunk}
@@ -17,9 +16,6 @@ module _ (k : List ℕ) (text : List ℕ) (p : Planner) (out out' : List ℕ) (r
   so_far done e =
       rest ∙ ap (λ t. text ++ t) (call_left (coming p) out out' r i ∙ ap (λ (d : Bool). take r.count out' ++ left_text d (coming r.planner)) e)
       ∙ sym (append_assoc text (take r.count out') _)
-
-pub loop-chunk-init : goal.loop-chunk-init
-loop-chunk-init g c = record { text = []; out = Appends-nil _; rest = refl; room = length-replicate {A = ℕ} 262144 0 }
 
 pub returns-then-is_some : goal.returns-then-is_some
 returns-then-is_some g c =

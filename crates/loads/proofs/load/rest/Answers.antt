@@ -8,5 +8,5 @@ pub returns : goal.returns
 returns c =
     let p = c.args.p in
     let h = c.requires.sound_pass in
-    let left = left_is p h c.less-loadable.type_inv c.less-loadable.ensures in
+    let left = left_is p h c.less.type_inv c.less.ensures in
     reaches_as (rest_is p c.requires.meets) (omega arith) (rw (left, line_is p.scaled h.scaled) at c.enter.ensures)

@@ -1,38 +1,30 @@
 -- The test picks the definition's branch, and the sum's answer is the definition's.
-use Rattle.std.proofs.Common.{rules, lit≤, ◌≡◌, pos, ◌+ℤ◌, ◌-ℤ◌, ◌*ℤ◌, ℤ, to_z, of_z}
+use Rattle.std.proofs.Common.{rules, lit≤, ◌≡◌, pos, ◌+ℤ◌, ◌-ℤ◌, ◌*ℤ◌, to_z, of_z}
 use Rattle.std.specs.Int.{w64}
-use Rattle.measures.specs.Range.{Within}
-use Rattle.loads.specs.Comes.{difference_in, times_in, read_in}
+use Rattle.loads.specs.Comes.{difference_in, difference_is, times_in, read_in}
 use Rattle.loads.specs.Loads.{advance_by_on, advance_by_wrap}
 use Rattle.loads.proofs.Read.{value}
 use Rattle.loads.proofs.sums.advance.Goals as goal
-use Rattle.loads.proofs.sums.advance.Goals.{After-difference-remain, After-times, After-times-2}
+use Rattle.loads.proofs.sums.advance.Goals.{After-times, After-times-2}
 
-is : (z : ℤ) → Within 44 z → to_z w64 (of_z w64 z) ≡ z
-is z w = read_in 44 z (lit≤ tt) w
-
--- the rows left, the bytes of the rows, and the bytes of the rows past the image's end
-left_is : (c : After-difference-remain) → to_z w64 (of_z w64 c.difference-remain.result) ≡ c.args.source.remain -ℤ c.args.rows
-left_is c = let w = c.requires.within in value c.difference-remain.type_inv (rw (is _ w.0, is _ w.1) at c.difference-remain.ensures)
-
+-- the bytes of the rows, and the bytes of the rows past the image's end
 bytes_is : (c : After-times) → to_z w64 (of_z w64 c.times.result) ≡ c.args.rows *ℤ pos c.args.z.stride
-bytes_is c = value c.times.type_inv (rw (is _ c.requires.within.1) at c.times.ensures)
+bytes_is c = value c.times.type_inv (rw (read_in 44 _ (lit≤ tt) c.requires.within.1) at c.times.ensures)
 
 past_is : (c : After-times-2) → to_z w64 (of_z w64 c.times-2.result) ≡ (c.args.rows -ℤ c.args.source.remain) *ℤ pos c.args.z.stride
 past_is c =
     let w = c.requires.within in
-    let past = value c.difference-past.type_inv (rw (is _ w.0, is _ w.1) at c.difference-past.ensures) in
-    value c.times-2.type_inv (rw past at c.times-2.ensures)
+    value c.times-2.type_inv (rw (difference_is (lit≤ tt) w.1 w.0) at c.times-2.ensures)
 
 pub returns-in_err-pointer : goal.returns-in_err-pointer
 returns-in_err-pointer c =
     let at = goal.at.returns-in_err-pointer c in
-    rw c.from_residual.ensures (rw c.in_err-pointer.was at (advance_by_on c.args.z c.args.source c.args.rows _ c.source_address.result (left_is at.After-difference-remain) _ (bytes_is at.After-times) c.if-remain-gt0.true c.source_address.ensures))
+    rw c.from_residual.ensures (rw c.in_err-pointer.was at (advance_by_on c.args.z c.args.source c.args.rows _ c.source_address.result (difference_is (lit≤ tt) c.requires.within.0 c.requires.within.1) _ (bytes_is at.After-times) c.if-remain-gt0.true c.source_address.ensures))
 
 pub returns-then-remain-gt0 : goal.returns-then-remain-gt0
 returns-then-remain-gt0 c =
     let at = goal.at.returns-then-remain-gt0 c in
-    rw c.in_ok-pointer.was at (advance_by_on c.args.z c.args.source c.args.rows _ c.source_address.result (left_is at.After-difference-remain) _ (bytes_is at.After-times) c.if-remain-gt0.true c.source_address.ensures)
+    rw c.in_ok-pointer.was at (advance_by_on c.args.z c.args.source c.args.rows _ c.source_address.result (difference_is (lit≤ tt) c.requires.within.0 c.requires.within.1) _ (bytes_is at.After-times) c.if-remain-gt0.true c.source_address.ensures)
 
 pub plus-back-requires : goal.plus-back-requires
 plus-back-requires c =
@@ -42,7 +34,7 @@ plus-back-requires c =
 pub returns-in_err-pointer-2 : goal.returns-in_err-pointer-2
 returns-in_err-pointer-2 c =
     let at = goal.at.returns-in_err-pointer-2 c in
-    let left = left_is at.After-difference-remain in
+    let left = difference_is (lit≤ tt) c.requires.within.0 c.requires.within.1 in
     let back = value c.plus-back.type_inv (rw (past_is at.After-times-2) at c.plus-back.ensures) in
     rw c.from_residual-in_err-pointer-2.ensures
     (rw c.in_err-pointer-2.was at (advance_by_wrap c.args.z c.args.source c.args.rows _ c.source_address-2.result left _ (c.args.source.remain -ℤ c.args.rows +ℤ pos c.args.z.source_rows) back (rw left) c.if-remain-gt0.false c.source_address-2.ensures))
@@ -51,4 +43,4 @@ pub returns : goal.returns
 returns c =
     let at = goal.at.returns c in
     let back = value c.plus-back.type_inv (rw (past_is at.After-times-2) at c.plus-back.ensures) in
-    rw c.in_ok-pointer-2.was at (advance_by_wrap c.args.z c.args.source c.args.rows _ c.source_address-2.result (left_is at.After-difference-remain) _ _ back (value c.plus-remain.type_inv c.plus-remain.ensures) c.if-remain-gt0.false c.source_address-2.ensures)
+    rw c.in_ok-pointer-2.was at (advance_by_wrap c.args.z c.args.source c.args.rows _ c.source_address-2.result (difference_is (lit≤ tt) c.requires.within.0 c.requires.within.1) _ _ back (value c.plus-remain.type_inv c.plus-remain.ensures) c.if-remain-gt0.false c.source_address-2.ensures)

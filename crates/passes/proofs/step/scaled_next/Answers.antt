@@ -13,12 +13,12 @@ pub returns-in-Second : goal.returns-in-Second
 returns-in-Second c = rw c.in-Second.is (give_second c.args.p _ c.tile0.ensures (rw c.in-Second.is at c.requires))
 
 pub returns-in-Whole : goal.returns-in-Whole
-returns-in-Whole c = rw c.in-Whole.is (give_whole c.args.p _ c.image-entry.ensures (rw c.in-Whole.is at c.requires))
+returns-in-Whole c = rw c.in-Whole.is (give_whole c.args.p _ c.image.ensures (rw c.in-Whole.is at c.requires))
 
 pub returns-in-Tile : goal.returns-in-Tile
 returns-in-Tile c =
     let f : SFits w64 c.args.p.part.destination = record { sfits = omega arith } in
-    rw c.in-Tile.is (give_tile c.args.p _ (rw (rd f) at c.tile7-entry.ensures) (rw c.in-Tile.is at c.requires))
+    rw c.in-Tile.is (give_tile c.args.p _ (rw (rd f) at c.tile7-in-Tile.ensures) (rw c.in-Tile.is at c.requires))
 
 pub returns-in-Image : goal.returns-in-Image
-returns-in-Image c = rw c.in-Image.is (give_image c.args.p _ c.image-entry-in-Image.ensures (rw c.in-Image.is at c.requires))
+returns-in-Image c = rw c.in-Image.is (give_image c.args.p _ c.image-in-Image.ensures (rw c.in-Image.is at c.requires))

@@ -1,24 +1,33 @@
 -- What the checks answer picks the law.
-use Rattle.std.proofs.Common.{Ok, Fits, rules, ap, sym, ◌∙◌}
+use Rattle.std.proofs.Common.{◌≡◌, Ok, Fits, rules, arith, sym, ◌∙◌}
 use Rattle.std.specs.Int.{w64}
+use Rattle.object.specs.declared.types.Background.TheVariants.{Scaled, Copy}
 use Rattle.request.specs.Host.{with_bytes}
 use Rattle.ruler.proofs.Known.{nothing_refused, nothing_copied, found_scaled}
+use Rattle.ruler.proofs.found.ruler_of.Goals.{In-Scaled}
 use Rattle.ruler.proofs.found.ruler_of.Goals as goal
 
-pub returns-in-Ok-Scaled : goal.returns-in-Ok-Scaled
-returns-in-Ok-Scaled c =
+pub returns-in_err-bg : goal.returns-in_err-bg
+returns-in_err-bg c =
     let a = c.args in
-    let g = c.in-Ok-Scaled.is ∙ ap Ok c.in-Ok-Scaled.field-0-is in
+    rw c.from_residual.ensures (nothing_refused (with_bytes a.object.now a.q) _ (sym c.checked.ensures.is) (sym c.ok.ensures.value ∙ c.in_err-bg.was))
+
+pub returns-in_default : goal.returns-in_default
+returns-in_default c =
+    let a = c.args in
+    let e : c.checked.result ≡ Ok (Copy c.in_default.field-0) = grind arith in
+    nothing_copied (with_bytes a.object.now a.q) _ (sym c.checked.ensures.is ∙ e)
+
+scaled : (c : In-Scaled) → c.checked.result ≡ Ok (Scaled c.in-Scaled.bg)
+scaled c = grind arith
+
+pub scaled_found-requires : goal.scaled_found-requires
+scaled_found-requires c = rw (scaled c) at c.checked.ensures.known
+
+pub returns : goal.returns
+returns c =
+    let a = c.args in
     let k = c.checked.ensures in
+    let e = scaled (goal.at.returns c).In-Scaled in
     let f : Fits w64 a.q.address = search rules in
-    found_scaled (with_bytes a.object.now a.q) _ (sym k.is ∙ g) (rw g at k.known) f.fits c.scaled_found.result c.scaled_found.ensures
-
-pub returns-in-Ok-Copy : goal.returns-in-Ok-Copy
-returns-in-Ok-Copy c =
-    let a = c.args in
-    nothing_copied (with_bytes a.object.now a.q) _ (sym c.checked.ensures.is ∙ c.in-Ok-Copy.is ∙ ap Ok c.in-Ok-Copy.field-0-is)
-
-pub returns-in-Err : goal.returns-in-Err
-returns-in-Err c =
-    let a = c.args in
-    nothing_refused (with_bytes a.object.now a.q) _ (sym c.checked.ensures.is ∙ c.in-Err.is)
+    found_scaled (with_bytes a.object.now a.q) _ (sym k.is ∙ e) (rw e at k.known) f.fits c.scaled_found.result c.scaled_found.ensures

@@ -8,7 +8,7 @@ use Rattle.ruler.proofs.measure.rect_taken.Goals as goal
 pub distance-distance-requires : goal.distance-distance-requires
 distance-distance-requires c =
     let i = c.s.invariant in
-    let n = rw (sym c.s.view_is) at c.in-Some.ensures in
+    let n = rw (c.in_ok-s.ensures.ok_part, sym c.s.view_is) at c.next_strip.ensures in
     rw (rd (place_fits i), rd c.ranges.ult) (next_strip c.requires.0 n, (omega (arith, i.earlier), (c.requires.1.1.0, c.requires.1.1.1)))
 
 pub invariant_of-begun : goal.invariant_of-begun
@@ -16,7 +16,7 @@ invariant_of-begun c = (search (rules, strip_read), search rules)
 
 pub returns : goal.returns
 returns c =
-    let n = rw (sym c.s.view_is) at c.in-Some.ensures in
+    let n = rw (c.in_ok-s.ensures.ok_part, sym c.s.view_is) at c.next_strip.ensures in
     let d = c.distance-distance in
     let k = rd (place_fits c.s.invariant) in
     let e = rw (k, rd c.ranges.ult) at d.ensures in

@@ -11,7 +11,7 @@ use Rattle.scaled.specs.Range.{StartIn}
 use Rattle.scaled.specs.Strip.{origin_of}
 use Rattle.scaled.specs.StartLaw.{h_least, carry_le, y_le, wrapped_le, start_in}
 use Rattle.scaled.proofs.start.start_of.Goals as goal
-use Rattle.scaled.proofs.start.start_of.Goals.{After-of_rows-down, After-sum-y, After-of_thirty_seconds-back, then-c, else-c}
+use Rattle.scaled.proofs.start.start_of.Goals.{After-of_rows-down, After-add-y, After-of_thirty_seconds-back, then-c, else-c}
 
 abbrev w : ObjBg → ℕ
 w bg = in_image (quarters bg.image_w)
@@ -43,26 +43,26 @@ down_is c =
     let k : c.wraps-carry.result < 2 ^ 63 = rw (carry_is c) (omega arith) in
     rw (rdn c.wraps-carry.result k, carry_is c) at c.of_rows-down.ensures
 
-y_is : (c : After-sum-y) → c.of_rows-down.result ≡ down c.args.bg c.args.c → c.sum-y.result ≡ in_thirty_seconds (pos (y c.args.bg c.args.c))
-y_is c d = rw (c.position_after.ensures.value, d) at c.sum-y.ensures
+y_is : (c : After-add-y) → c.of_rows-down.result ≡ down c.args.bg c.args.c → c.add-y.result ≡ in_thirty_seconds (pos (y c.args.bg c.args.c))
+y_is c d = rw (c.position_after.ensures.value, d) at c.add-y.ensures
 
-wrap_is : (c : After-of_thirty_seconds-back) → c.sum-y.result ≡ in_thirty_seconds (pos (y c.args.bg c.args.c)) → c.wraps-wrap.result ≡ y c.args.bg c.args.c / h c.args.bg
+wrap_is : (c : After-of_thirty_seconds-back) → c.add-y.result ≡ in_thirty_seconds (pos (y c.args.bg c.args.c)) → c.wraps-wrap.result ≡ y c.args.bg c.args.c / h c.args.bg
 wrap_is c e = rw (e, c.in_image-source_h.ensures) at c.wraps-wrap.ensures
 
-back_is : (c : After-of_thirty_seconds-back) → c.sum-y.result ≡ in_thirty_seconds (pos (y c.args.bg c.args.c)) → c.of_thirty_seconds-back.result ≡ in_thirty_seconds (pos (y c.args.bg c.args.c / h c.args.bg * h c.args.bg))
+back_is : (c : After-of_thirty_seconds-back) → c.add-y.result ≡ in_thirty_seconds (pos (y c.args.bg c.args.c)) → c.of_thirty_seconds-back.result ≡ in_thirty_seconds (pos (y c.args.bg c.args.c / h c.args.bg * h c.args.bg))
 back_is c e = rw (wrap_is c e, c.thirty_seconds.ensures, c.in_image-source_h.ensures) at c.of_thirty_seconds-back.ensures
 
-pub sum-y-requires : goal.sum-y-requires
-sum-y-requires c =
+pub add-y-requires : goal.add-y-requires
+add-y-requires c =
     let l = carry_le c.args.bg c.args.c c.requires.usable c.requires.filled in
     let m = rw c.position_after.ensures.value at c.position_after.ensures.result_bound in
-    rw (c.position_after.ensures.value, down_is (goal.at.sum-y-requires c).After-of_rows-down)
+    rw (c.position_after.ensures.value, down_is (goal.at.add-y-requires c).After-of_rows-down)
     (record { low = omega zarith; high = omega zarith }, record { low = omega zarith; high = omega zarith })
 
 pub rest-requires-2 : goal.rest-requires-2
 rest-requires-2 c =
     let g = goal.at.rest-requires-2 c in
-    rw (y_is g.After-sum-y (down_is g.After-of_rows-down), c.in_image-source_h.ensures)
+    rw (y_is g.After-add-y (down_is g.After-of_rows-down), c.in_image-source_h.ensures)
     (omega (arith, y_le c.args.bg c.args.c c.requires.usable c.requires.filled), omega (arith, h_least c.args.bg c.args.c c.requires.usable c.requires.filled))
 
 pub origin_of-requires : goal.origin_of-requires
@@ -71,7 +71,7 @@ origin_of-requires c =
     let m = wrapped_le c.args.bg c.args.c c.requires.usable c.requires.filled in
     let g = goal.at.origin_of-requires c in
     let d = down_is g.After-of_rows-down in
-    rw (d, back_is g.After-of_thirty_seconds-back (y_is g.After-sum-y d))
+    rw (d, back_is g.After-of_thirty_seconds-back (y_is g.After-add-y d))
     (c.requires.usable.range.image_y_orig, (record { low = omega zarith; high = omega zarith }, record { low = omega zarith; high = omega zarith }))
 
 pub returns : goal.returns
@@ -79,7 +79,7 @@ unfolding start_of origin_of
 returns c =
     let g = goal.at.returns c in
     let d = down_is g.After-of_rows-down in
-    let e = y_is g.After-sum-y d in
+    let e = y_is g.After-add-y d in
     let k = carry_is g.After-of_rows-down in
     let n = wrap_is g.After-of_thirty_seconds-back e in
     let ix = rw (x_is g.After-of_rows-down, c.in_image-source_w.ensures) at c.rest.ensures in

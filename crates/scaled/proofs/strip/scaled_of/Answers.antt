@@ -1,18 +1,14 @@
 -- The fields are the definition's, and the law of its ranges carries over.
-use Rattle.std.proofs.Common.{◌≡◌, sym, ap, subst, ◌∙◌, ◌+ℤ◌, SFits, to_z, of_z}
-use Rattle.std.specs.Int.{w64}
-use Rattle.signed.specs.Diff.{zdiff, zarith}
-use Rattle.signed.specs.Word.{rd}
-use Rattle.measures.specs.Measure.{in_quarters}
+use Rattle.std.proofs.Common.{◌≡◌, sym, ap, subst, ◌∙◌}
 use Rattle.plan.specs.declared.types.Scaled.{Scaled}
 use Rattle.plan.specs.Scaled.{scaled_of, slices_bad}
 use Rattle.plan.specs.Sound.{SoundScaled}
 use Rattle.scaled.specs.Strip.{shift_of, max_slice, line_of, split_of, s_of}
 use Rattle.scaled.specs.StripLaw.{scaled_sound}
 use Rattle.scaled.proofs.strip.scaled_of.Goals as goal
-use Rattle.scaled.proofs.strip.scaled_of.Goals.{After-into-3}
+use Rattle.scaled.proofs.strip.scaled_of.Goals.{After-add}
 
-abbrev scaled : After-into-3 → Scaled
+abbrev scaled : After-add → Scaled
 scaled c =
     let a = c.args in
     let r = c.rows_of-rows.result in
@@ -23,7 +19,7 @@ scaled c =
       palette = c.into-3.result;
       address = a.address;
       x = a.c.x;
-      x_end = in_quarters (to_z w64 (of_z w64 (to_z w64 (of_z w64 a.c.x.0) +ℤ to_z w64 (of_z w64 a.c.width.0))));
+      x_end = c.add.result;
       scale_w = a.bg.scale_w;
       scale_h = a.bg.scale_h;
       bilerp = c.bilerp_of-bilerp.result;
@@ -37,16 +33,7 @@ scaled c =
       s = k.s;
     }
 
-end_is : (c : After-into-3) → to_z w64 (of_z w64 (to_z w64 (of_z w64 c.args.c.x.0) +ℤ to_z w64 (of_z w64 c.args.c.width.0))) ≡ c.args.c.x.0 +ℤ c.args.c.width.0
-end_is c =
-    let f = c.requires.filled.x in
-    let g = c.requires.filled.width' in
-    let x : SFits w64 c.args.c.x.0 = omega zarith in
-    let w : SFits w64 c.args.c.width.0 = omega zarith in
-    let s : SFits w64 (c.args.c.x.0 +ℤ c.args.c.width.0) = simp zdiff (omega zarith) in
-    rw (rd x, rd w, rd s)
-
-is : (c : After-into-3) → scaled c ≡ scaled_of c.args.bg c.args.mode c.args.address c.args.c c.args.i
+is : (c : After-add) → scaled c ≡ scaled_of c.args.bg c.args.mode c.args.address c.args.c c.args.i
 unfolding scaled_of shift_of max_slice line_of split_of s_of
 is c =
     let a = c.args in
@@ -59,7 +46,7 @@ is c =
       palette = (c.into-3.ensures ∙ c.low8.ensures) j;
       address = a.address;
       x = a.c.x;
-      x_end = in_quarters (end_is c j);
+      x_end = c.add.ensures j;
       scale_w = a.bg.scale_w;
       scale_h = a.bg.scale_h;
       bilerp = l j;
@@ -75,5 +62,5 @@ is c =
 
 pub returns : goal.returns
 returns c =
-    let i = is (goal.at.returns c).After-into-3 in
+    let i = is (goal.at.returns c).After-add in
     record { is = i; sound = λ e. subst SoundScaled (sym i) (scaled_sound c.args.bg c.args.mode c.args.address c.args.c c.args.i c.requires.usable c.requires.filled c.requires.start_in (sym (ap slices_bad i) ∙ e)) }

@@ -11,17 +11,17 @@ returns c =
     let uly : SFits w32 c.args.scissor.uly = omega zarith in
     let lrx : SFits w32 c.args.scissor.lrx = omega zarith in
     let lry : SFits w32 c.args.scissor.lry = omega zarith in
-    rw (c.from.ensures, c.from-2.ensures, c.from-3.ensures)
+    rw (c.into.ensures, c.into-2.ensures, c.into-3.ensures, c.flipped.ensures)
     (copy_is c.args.bg c.args.scissor c.args.address c.requires
     (rw (to_z-of_z w32 _ ulx, to_z-of_z w32 _ lrx) at c.axis_of-across.ensures)
     (rw (to_z-of_z w32 _ uly, to_z-of_z w32 _ lry) at c.axis_of-down.ensures)
-    c.texels-image_width.ensures
-    c.texels-image_height.ensures
-    c.texels-frame_cells.ensures
-    c.whole_texels-source_x.ensures
+    c.texels.ensures
+    c.texels-2.ensures
+    c.texels-3.ensures
     c.whole_texels.ensures
-    c.strip_lines-rows.ensures.0
-    c.strip_lines-rows.ensures.1
-    c.low8-palette.ensures
-    c.copy_capacity-capacity.ensures.is
-    c.texels_per_word-texels_per_word.ensures)
+    c.whole_texels-2.ensures
+    c.strip_lines.ensures.0
+    c.strip_lines.ensures.1
+    c.low8.ensures
+    c.copy_capacity.ensures.is
+    c.texels_per_word.ensures)

@@ -23,7 +23,7 @@ pub returns : goal.returns
 unfolding load_tile
 returns c =
     let s = c.requires.sound_part in
-    let right = rw (read_in 47 _ (lit≤ tt) s.width) at c.right-lrs.ensures in
-    let lower = rw (read_in 47 _ (lit≤ tt) s.rows) at c.lower-lrt.ensures in
-    let load = rw (c.width_field-field.ensures, c.load_size-siz.ensures.0) at c.tile7_load.ensures in
+    let right = rw (read_in 47 _ (lit≤ tt) s.width) at c.right.ensures in
+    let lower = rw (read_in 47 _ (lit≤ tt) s.rows) at c.lower.ensures in
+    let load = rw (c.width_field.ensures, c.load_size-siz.ensures.0) at c.tile7_load.ensures in
     rw (← right, ← lower) (given _ _ _ _ load c.map_err.ensures.cases)

@@ -40,9 +40,9 @@ returns c =
     let z = p.scaled in
     let h = c.requires in
     let s : SFits w64 z.s.0 = record { sfits = omega arith } in
-    let us = value c.short.type_inv (rw (rd s) at c.short.ensures) in
-    let ut = value c.short-2.type_inv (rw (below_read (lit≤ tt) h.walk.t) at c.short-2.ensures) in
-    let dx = value c.short-3.type_inv (rw (rdn z.scale_w.0 (omega (arith, h.scaled.scale_w'))) at c.short-3.ensures) in
-    let dy = value c.short-4.type_inv (rw (rdn z.scale_h.0 (omega (arith, h.scaled.scale_h'))) at c.short-4.ensures) in
+    let us = value c.signed16.type_inv (rw (rd s) at c.signed16.ensures) in
+    let ut = value c.signed16-2.type_inv (rw (below_read (lit≤ tt) h.walk.t) at c.signed16-2.ensures) in
+    let dx = value c.signed16-3.type_inv (rw (rdn z.scale_w.0 (omega (arith, h.scaled.scale_w'))) at c.signed16-3.ensures) in
+    let dy = value c.signed16-4.type_inv (rw (rdn z.scale_h.0 (omega (arith, h.scaled.scale_h'))) at c.signed16-4.ensures) in
     let row = rw (rdn z.source_rows (source_low p h), remain_is p h, rd (rows_fit p h)) at c.wrapped.ensures in
     rw (c.position.ensures, c.line_at.ensures, c.position-2.ensures, c.line_at-2.ensures, us, ut, dx, dy, row)

@@ -1,0 +1,2 @@
+-- A law of the order of widths.
+pub mod Least
