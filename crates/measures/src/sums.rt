@@ -1,4 +1,4 @@
-// Sums and differences of one measure, for numbers of at most 40 bits: what a set-up adds up has far fewer.
+// Sums and differences of one measure, for numbers of at most 40 bits: what a set-up adds up has far fewer. Each of the two types has its own: a trait cannot give operators to all its types, and the customer names the measures as tuple structs, not as one generic type.
 ghost use Rattle.std.specs.Prelude.{◌≡◌, ◌+ℤ◌, ◌-ℤ◌};
 ghost use Rattle.measures.specs.Measure.{in_quarters, in_thirty_seconds};
 ghost use Rattle.measures.specs.Range.{Within};
