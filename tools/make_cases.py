@@ -24,6 +24,7 @@ SAID = {
     'H': ('"H: as E with scales 1000: 240 lines; line 6 begins strip 1, 144/1,024 ahead; line 239 strip 39, 616/1,024 ahead"', ['answers 0', 'lines 240', 'begins 6 1 144', 'begins 239 39 616', 'drifts']),
     'I': ('"I: scaled, siz 3, image 4096 by 8, image_x 22400, frame 1296 by 4, scales 1024, scissor right 1023: 8 after three entries"', ['answers 8', 'entries 3']),
     'J': ('"J: I at address 0: 9 after three"', ['answers 9', 'entries 3']),
+    'O': ('"O: H with image_y and image_y_orig 16: 240 lines; line 6 begins strip 1, 368/1,024 behind; line 239 strip 39, 104/1,024 ahead"', ['answers 0', 'lines 240', 'lags 6 1 368', 'begins 239 39 104', 'drifts']),
 }
 
 def ask(oracle, record, room, count=40):
@@ -64,7 +65,7 @@ def module(oracle, path, title, groups, bank=None):
         f.write(f'-- {title} Written by tools/make_cases.py from the oracle\'s output.\n-- Assumes nothing.\n'
                 f'use Rattle.std.specs.Prelude.{{List, [], ◌∷◌, {"" if bank else "ℕ, "}T}}\n'
                 f'use {crate}.Check.{{Given, {"saying" if said else "given"}, ends, all_agree}}\n'
-                + (f'use {crate}.Check.Figure.{{answers, entries, rects, words, lines, begins, drifts}}\n' if said else '')
+                + (f'use {crate}.Check.Figure.{{answers, entries, rects, words, lines, begins, lags, drifts}}\n' if said else '')
                 + (f'use {crate}.{bank}.{{bank}}\n' if bank else f'\n-- the bank that every run starts from\nabbrev pub bank : List ℕ\nbank =\n    {initial(oracle)}\n'))
         for name, rows in groups:
             f.write(f'\nunfoldable pub {name} : List Given\n{name} =\n' + ''.join((f'    -- {c}\n' if c else '') + f'    {"" if i == 0 else "∷ "}{r}\n' for i, (c, r) in enumerate(rows)) + '    ∷ []\n'
@@ -88,7 +89,7 @@ def main():
     edge = edges(oracle)
     listed = records(replayed)[len(counts):]
     sample = listed[:listed.index(edge[0][1])]
-    module(oracle, f'{crates}/plan/specs/Unit.antt', 'The worked cases L, A, B, C, D, E, G, H, I, J, in this order, as a unit: from the 61 bytes to the whole plan, the bank, and the figures of docs/SPECIFICATION.md, section 13, which the quotes call D.', [('unit', [case(c) for c in 'L A B C D E G H I J'.split()])])
+    module(oracle, f'{crates}/plan/specs/Unit.antt', 'The worked cases L, A, B, C, D, E, G, H, I, J, O, in this order, as a unit: from the 61 bytes to the whole plan, the bank, and the figures of docs/SPECIFICATION.md, section 13, which the quotes call D.', [('unit', [case(c) for c in 'L A B C D E G H I J O'.split()])])
     module(oracle, f'{crates}/plan/specs/Edges.antt', 'Records at the edges of the rules.', [('edges', [(what, row(oracle, record)) for what, record in edge])], 'Unit')
     module(oracle, f'{crates}/cases/specs/Sample.antt', 'The sample records of crates/replay.', [('sample', [('', row(oracle, r)) for r in sample])], 'Unit')
 

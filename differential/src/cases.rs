@@ -48,6 +48,16 @@ fn scaled(width: u16, height: u16, scale: u16) -> Object {
     object
 }
 
+/// As E and H, with image_y and the origin at 16/32, between two rows.
+fn half_a_row_down(scale: u16) -> Object {
+    let mut object = Object {
+        image_y: 16,
+        ..scaled(1280, 960, scale)
+    };
+    object.set_scales(scale, scale, 16);
+    object
+}
+
 pub fn all() -> Vec<Case> {
     let l = copied(64, 8, 8);
     let e = scaled(1280, 960, 1024);
@@ -82,6 +92,7 @@ pub fn all() -> Vec<Case> {
     add("H", 40, record(&scaled(1280, 960, 1000), SCALED));
     add("I", 40, i);
     add("J", 40, Record { address: 0, ..i });
+    add("O", 40, record(&half_a_row_down(1000), SCALED));
     add("K-copy-39", 39, record(&l, COPY));
     add("K-copy-40", 40, record(&l, COPY));
     add("K-scaled-35", 35, record(&e, SCALED));

@@ -68,6 +68,8 @@ const MODES: [(&str, Mode); 8] = [
     ("wild", Mode::Wild),
 ];
 
+const ORIGINS: [&str; 2] = ["is a whole row", "lies between two rows"];
+
 #[derive(Clone, Default)]
 struct Tally {
     records: u64,
@@ -89,9 +91,11 @@ struct Tally {
     steps: u64,
     beyond: u64,
     second: u64,
-    /// Rectangles of scaled plans that were measured, and the plans that demand 3 is promised of.
+    /// Rectangles of scaled plans that were measured; the plans that demand 3 is promised of, and
+    /// their rectangles within 1/1,024 of the limit behind, by the origin: a whole row, or between two.
     measured: u64,
-    apt: u64,
+    apt: [u64; 2],
+    nearest: [u64; 2],
 }
 
 fn mode(record: &Record) -> usize {
@@ -126,7 +130,10 @@ impl Tally {
         self.beyond += other.beyond;
         self.second += other.second;
         self.measured += other.measured;
-        self.apt += other.apt;
+        for kind in 0..2 {
+            self.apt[kind] += other.apt[kind];
+            self.nearest[kind] += other.nearest[kind];
+        }
         for (mine, theirs) in self.spans.iter_mut().zip(other.spans) {
             *mine += theirs;
         }
@@ -163,10 +170,14 @@ impl Tally {
              {} steps of second planners",
             self.planners, self.steps, self.beyond, self.second
         );
-        println!(
-            "{} rectangles of scaled plans measured; the conditions of demand 3 hold for {} plans",
-            self.measured, self.apt
-        );
+        println!("{} rectangles of scaled plans measured", self.measured);
+        for (kind, name) in ORIGINS.iter().enumerate() {
+            println!(
+                "the conditions of demand 3 hold for {} plans whose origin {name}; {} rectangles \
+                 are within 1/1,024 of the limit behind",
+                self.apt[kind], self.nearest[kind]
+            );
+        }
     }
 }
 
@@ -631,7 +642,8 @@ fn compare_fixed(tally: &mut Tally) -> Option<String> {
             Err(text) => return Some(describe(&case, &text)),
         }
     }
-    None
+    let far = ORIGINS.iter().zip(tally.nearest).find(|&(_, n)| n == 0);
+    far.map(|(name, _)| format!("no rectangle is near the limit behind where the origin {name}\n"))
 }
 
 fn single(arguments: &[String]) -> Option<String> {

@@ -234,6 +234,14 @@ fn scaled_ones() -> Vec<Edge> {
             }),
         ),
         (
+            "a line 1/1,024 inside the limit behind, its origin a whole row",
+            scaled((64, 32), (1024, 3), -64, |o, _| o.frame_h = 8),
+        ),
+        (
+            "a line 1/1,024 inside the limit behind, its origin between rows",
+            scaled((64, 32), (1024, 3), -1, |o, _| o.frame_h = 8),
+        ),
+        (
             "bilerp",
             scaled(SCREEN, ONE, 0, |o, r| (o.frame_h, r.render_mode) = (80, 8)),
         ),

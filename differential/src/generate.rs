@@ -12,7 +12,7 @@ pub enum Mode {
     Scaled,
     /// Scaled, with images of few rows, where strips have more rows than the image.
     Thin,
-    /// Scaled, with whole rows and a start at or below the origin.
+    /// Scaled, with an image of whole rows and a start at or below the origin.
     Whole,
     /// Every field from a short list of numbers beside limits.
     Corners,
@@ -399,7 +399,8 @@ fn scaled(random: &mut Random, thin: u64) -> Record {
     }
 }
 
-/// A scaled case with image_h a multiple of 4 and image_y_orig one of 32, not above image_y.
+/// A scaled case with image_h a multiple of 4 and image_y_orig not above image_y, a multiple of 32 in
+/// every other one.
 fn whole(random: &mut Random) -> Record {
     let mut record = scaled(random, 10);
     let half = |at: usize| {
@@ -420,7 +421,8 @@ fn whole(random: &mut Random) -> Record {
         4 => random.within(0, 100_000),
         _ => random.within(0, 67_000_000),
     };
-    let origin = ((half(8) & !31) - 32 * rows) as i32;
+    let between_rows = random.within(0, 31) * random.within(0, 1);
+    let origin = ((half(8) & !31) - 32 * rows - between_rows) as i32;
     record.object[10..12].copy_from_slice(&(image_h as u16).to_be_bytes());
     record.object[32..36].copy_from_slice(&origin.to_be_bytes());
     record

@@ -19,15 +19,24 @@ fn set_up(case: &Case, answer: &Answer) -> Option<(Slices, crate::hle::mem::ObjB
     Some((answer.plan.notes.slices?, answer.object?))
 }
 
-/// Five words for each rectangle of the Rust's plan, by SPECIFICATION 11; and whether the conditions
-/// of 11.1 hold.
-fn expected(case: &Case, answer: &Answer) -> (Vec<[u64; DRIFT_WORDS]>, bool) {
+/// Five words for each rectangle of the Rust's plan, by SPECIFICATION 11; whether the conditions of
+/// 11.1 hold; and whether the origin lies between two rows.
+#[derive(Default)]
+struct Expected {
+    rectangles: Vec<[u64; DRIFT_WORDS]>,
+    apt: bool,
+    between_rows: bool,
+}
+
+fn expected(case: &Case, answer: &Answer) -> Expected {
     let Some((slices, bg)) = set_up(case, answer) else {
-        return (Vec::new(), false);
+        return Expected::default();
     };
     let (h, image_h) = (i64::from(bg.scale_h.max(1)), i64::from(bg.image_h));
     let origin = i64::from(bg.image_y_orig);
     let start = i64::from(bg.image_y) + (slices.top * h).div_euclid(128);
+    let between_rows = origin.rem_euclid(32) != 0;
+    let behind = -(h + if between_rows { 1022 } else { 30 });
     let mut rectangles = Vec::new();
     let mut line = 0;
     let entries = answer.plan.entries.iter().filter(|e| e[0] == RECTANGLE);
@@ -42,12 +51,30 @@ fn expected(case: &Case, answer: &Answer) -> (Vec<[u64; DRIFT_WORDS]>, bool) {
         let sampled = 1024 * row + 32 * ult;
         let exact = 32 * (start + 32 * slices.carry) + h * line;
         let distance = sampled - exact + 256 * image_h * rows.div_euclid(slices.source_rows);
-        let (behind, ahead) = (-(h + 30), (h * (1024 + k)).div_euclid(1024));
+        let ahead = (h * (1024 + k)).div_euclid(1024);
         rectangles.push([line, k, distance, behind, ahead].map(|n| n as u64));
         line += (lry - uly) / 4;
     }
-    let apt = image_h % 4 == 0 && origin % 32 == 0 && start >= origin;
-    (rectangles, apt)
+    Expected {
+        rectangles,
+        apt: image_h % 4 == 0 && start >= origin,
+        between_rows,
+    }
+}
+
+/// The limits of SPECIFICATION 11.6 on the Rust's own numbers, and how many rectangles are within
+/// 1/1,024 of the limit behind.
+fn near(rectangles: &[[u64; DRIFT_WORDS]]) -> Result<u64, String> {
+    let mut nearest = 0;
+    for (n, rectangle) in rectangles.iter().enumerate() {
+        let [distance, behind, ahead] = [2, 3, 4].map(|word| rectangle[word] as i64);
+        if !(behind..=ahead).contains(&distance) {
+            let text = format!("rectangle {n} of the Rust: {distance}, not {behind} to {ahead}\n");
+            return Err(text);
+        }
+        nearest += u64::from(distance <= behind + 1);
+    }
+    Ok(nearest)
 }
 
 /// One call into a buffer of so many words.
@@ -96,7 +123,11 @@ pub fn measured(
     buffers: &mut Buffers,
     tally: &mut Tally,
 ) -> Result<(), String> {
-    let (rectangles, apt) = expected(case, answer);
+    let Expected {
+        rectangles,
+        apt,
+        between_rows,
+    } = expected(case, answer);
     let whole = DRIFT_WORDS * rectangles.len();
     let rooms = [
         whole + random.below(11) as usize,
@@ -107,7 +138,11 @@ pub fn measured(
         called(case, &rectangles, apt, (room, random.next()), buffers)?;
     }
     tally.measured += rectangles.len() as u64;
-    tally.apt += u64::from(apt);
+    if apt {
+        let kind = usize::from(between_rows);
+        tally.apt[kind] += 1;
+        tally.nearest[kind] += near(&rectangles)?;
+    }
     Ok(())
 }
 

@@ -28,9 +28,9 @@ extern "C" {
 /* ---- The version: of this header, and of the archive that is linked. They belong together if VISOR_VERSION == visor_version(). */
 
 #define VISOR_VERSION_MAJOR 0
-#define VISOR_VERSION_MINOR 5
+#define VISOR_VERSION_MINOR 6
 #define VISOR_VERSION_PATCH 0
-#define VISOR_VERSION_TEXT "0.5.0"
+#define VISOR_VERSION_TEXT "0.6.0"
 #define VISOR_VERSION (VISOR_VERSION_MAJOR * 65536 + VISOR_VERSION_MINOR * 256 + VISOR_VERSION_PATCH)
 
 uint64_t visor_version(void);
@@ -303,6 +303,8 @@ uint64_t visor_step(uint64_t *state, size_t state_words, uint64_t *bank, size_t 
 /* How far the lines of a scaled plan are from their exact place in the image: drift has VISOR_DRIFT_WORDS words for each of the
    plan's rectangles, in order, as many as there is room for, and told says how many. visor_count says how many rectangles a plan
    has. The words beyond are as they were. A plan that is copied does not drift, and has none.
+   The limit behind is one line step, which is the object's scale_h, and 30 more; where image_y_orig is no multiple of 32, so
+   that the origin lies between two rows, 1,022 more. The limit ahead is one line step, and a 1,024th of one for each strip.
    Lengths: VISOR_REQUEST_WORDS, VISOR_TOLD_WORDS; object and drift may have any. */
 uint64_t visor_drift(const uint8_t *object, size_t object_bytes, const uint64_t *request, size_t request_words, uint64_t *drift,
                      size_t drift_words, uint64_t *told, size_t told_words);

@@ -77,9 +77,8 @@ pub fn drift<'a>(request: &Request, words: &'a mut [u64]) -> Drifts<'a> {
 #[derive(Clone, Debug)]
 pub struct Drifts<'a> {
     words: ChunksExact<'a, u64>,
-    /// Whether the limits are proved for this plan: its image height is a multiple of 4 units, its
-    /// origin a whole row, and its start at or below the origin. Otherwise a distance may lie
-    /// outside of them.
+    /// Whether the limits are proved for this plan: its image height is a multiple of 4 units, and
+    /// its start at or below the origin. Otherwise a distance may lie outside of them.
     pub proved: bool,
 }
 

@@ -9,7 +9,7 @@ use visorlongan::{count, run, Bank, Buffer, Entry, Request, Scissor, Verdict, EN
 fn plans_are_the_rusts() {
     let mut buffer = Buffer::new();
     let cases = cases();
-    assert_eq!(cases.len(), 20);
+    assert_eq!(cases.len(), 21);
     for (name, record, object_bytes) in &cases {
         let request = request(record, *object_bytes);
         let plan = buffer.plan(&request, &mut Bank::default());

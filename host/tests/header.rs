@@ -84,7 +84,7 @@ static void stepped(const uint8_t *object, const uint64_t *request) {
     printf(" %d %d\n", (int)out[VISOR_STEP_END_RECTANGLES], (int)out[VISOR_STEP_END_TILE_WORDS]);
 }
 
-/* The drift of case H: 40 rectangles, the second at line 6, 144 of 1,024 ahead; room for two alone; calls without arrays. */
+/* The drift of case H: 40 rectangles, the second at line 6, 144 of 1,024 ahead; room for two alone; calls without arrays. Then of case O, half a row lower. */
 static void drifted(uint64_t *request) {
     static uint64_t drift[40 * VISOR_DRIFT_WORDS], told[VISOR_TOLD_WORDS];
     uint8_t object[VISOR_SCALED_BYTES] = {0};
@@ -100,6 +100,11 @@ static void drifted(uint64_t *request) {
     printf(" %d", (int)visor_drift(NULL, 0, request, VISOR_REQUEST_WORDS, NULL, 0, told, VISOR_TOLD_WORDS));
     printf(" %d", (int)visor_drift(NULL, 0, NULL, 0, NULL, 0, NULL, 0));
     printf(" %d\n", drift[VISOR_DRIFT_WORDS + VISOR_DRIFT_DISTANCE] == 144 && drift[3 * VISOR_DRIFT_WORDS + VISOR_DRIFT_STRIP] == 3);
+    object[9] = 16; object[35] = 16;
+    printf("%d", (int)visor_drift(object, sizeof object, request, VISOR_REQUEST_WORDS, drift, 40 * VISOR_DRIFT_WORDS, told, VISOR_TOLD_WORDS));
+    printf(" %d %d", (int)told[VISOR_TOLD_RECTANGLES], (int)told[VISOR_TOLD_PROVED]);
+    for (int i = 0; i < VISOR_DRIFT_WORDS; i++) printf(" %d", (int)(int64_t)drift[VISOR_DRIFT_WORDS + i]);
+    printf("\n");
 }
 
 int main(void) {
@@ -133,6 +138,7 @@ fn expected() -> String {
         "10 20 20 30 40 50 1 4 16",
         "0 10 20 20 30 40 50 90 90 1 1 0 6 1 8",
         "0 40 1 6 1 144 -1030 1000 0 2 0 0 1 1",
+        "0 40 1 6 1 -368 -2022 1000",
     ];
     lines.extend(Verdict::ALL.iter().map(|verdict| verdict.sentence()));
     lines.push("This number is no verdict.");

@@ -280,7 +280,8 @@ impl Exact {
     fn ahead(&self, rect: &Rect, image_h: i64, j: i64, line: i64) -> i64 {
         let sampled = 1024 * rect.row as i64 + 32 * i64::from(rect.ult) + self.scale_h * j;
         let place = 32 * (self.first + 32 * self.carry) + self.scale_h * line;
-        let behind = self.scale_h + 30;
+        let whole_row = self.origin.rem_euclid(32) == 0;
+        let behind = self.scale_h + if whole_row { 30 } else { 1022 };
         (sampled - place + behind).rem_euclid(256 * image_h) - behind
     }
 
@@ -308,7 +309,8 @@ fn random_scaled(r: &mut Random) -> ([u8; 40], Scissor, u32) {
         }
     };
     let image_y = r.from(0, 3_000);
-    let origin = 32 * (r.from(-4_000, image_y) / 32);
+    let between_rows = r.from(0, 31) * r.from(0, 1);
+    let origin = 32 * (r.from(-4_000, image_y) / 32) - between_rows;
     let fields = [
         (0, r.from(0, 2 * columns * 32)),
         (2, columns * 4),

@@ -170,36 +170,57 @@ fn case_e_by_another_renderer() {
 /// The limits of a plan that they are not proved for are drawn as such, and what lies outside is red.
 #[test]
 fn drift_outside_the_limits_is_red() {
-    let folder = folder("origin");
+    let folder = folder("height");
     let fields = [
         (2, 1280),
         (6, 1280),
-        (10, 960),
+        (8, 7600),
+        (10, 963),
         (14, 960),
         (28, 1024),
         (30, 700),
-        (32, -1),
-        (34, -1000),
     ];
     std::fs::write(
-        folder.join("origin.bin"),
+        folder.join("height.bin"),
         record(false, &fields, 0, 2, [0, 0, 320, 240]),
     )
     .unwrap();
-    let output = visor(&["draw", "origin.bin", "-o", "sheet.png"], &folder);
+    let output = visor(&["draw", "height.bin", "-o", "sheet.png"], &folder);
     let words = said(&output);
     assert!(
-        words.contains("not proved here, as the origin lies between two rows"),
+        words.contains("not proved here, as the image's height is no whole number of rows"),
         "{words}"
     );
     assert!(
-        words.contains("20 of 28 strips lie outside these limits."),
+        words.contains("18 of 28 strips lie outside these limits."),
         "{words}"
     );
     let sheet = pixels(&std::fs::read(folder.join("sheet.png")).unwrap());
     let red = Rgb(255, 23, 68);
-    let found = (0..120).any(|x| close(at(&sheet, (DRIFT.0 + f64::from(x), line(30.0))), red));
-    assert!(found, "a strip outside its limits is red");
+    let across = 0..DRIFT.1 as usize;
+    let found = |x: usize| close(at(&sheet, (DRIFT.0 + x as f64, line(100.5))), red);
+    assert!(across.into_iter().any(found), "a strip outside is red");
+}
+
+/// The limits of an origin between two rows are proved too, the one behind further off.
+#[test]
+fn an_origin_between_rows_has_its_own_limit() {
+    let folder = folder("between");
+    let said_of = |name: &str| said(&visor(&["draw", &case(name), "-o", "sheet.svg"], &folder));
+    let (whole, between) = (said_of("H"), said_of("O"));
+    assert!(
+        whole.contains("Drift from +0 to +896 of 1,024; the proved limits are -1030 and +1038."),
+        "{whole}"
+    );
+    assert!(
+        between.contains(
+            "Drift from -512 to +384 of 1,024; the proved limits, for an origin between two rows, \
+             are -2022 and +1038."
+        ),
+        "{between}"
+    );
+    let svg = std::fs::read_to_string(folder.join("sheet.svg")).expect("text");
+    assert!(svg.contains(">-2022<") && svg.contains(">green: the proved limits<"));
 }
 
 /// What stands of a refused plan, and in red where and why it stopped.

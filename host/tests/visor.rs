@@ -135,7 +135,7 @@ fn kept(name: &str, arguments: &[&str], run: Ran) {
 
 #[test]
 fn plans_of_the_worked_cases_as_tables() {
-    for name in ["L", "A", "B", "C", "E", "G", "H", "I", "J"] {
+    for name in ["L", "A", "B", "C", "E", "G", "H", "I", "J", "O"] {
         golden(&format!("plan-{name}"), &["plan", &format!("{name}.bin")]);
     }
     golden(
@@ -159,7 +159,7 @@ fn plans_of_the_worked_cases_by_entries_and_for_programs() {
 #[test]
 fn sheets_and_a_report_of_the_worked_cases() {
     let folder = folder("words");
-    for name in ["L", "A", "B", "C", "E", "G", "H", "I", "J", "N-copy"] {
+    for name in ["L", "A", "B", "C", "E", "G", "H", "I", "J", "O", "N-copy"] {
         let file = format!("{name}.bin");
         std::fs::write(folder.join(&file), case(&file)).expect("a file");
         let arguments = ["draw", &file, "-o", "sheet.svg"];
@@ -194,7 +194,7 @@ fn differences() {
 #[test]
 fn raw_is_what_bgplan_prints() {
     let cases = cases();
-    assert_eq!(cases.len(), 20);
+    assert_eq!(cases.len(), 21);
     for (name, bytes) in &cases {
         let mut arguments = vec!["plan", "-", "--raw"];
         let mut input = case(&format!("{name}.bin"));

@@ -105,7 +105,7 @@ fn word(random: &mut Random) -> OsString {
 
 /// A record with some bytes changed, cut off or written as hex.
 fn input(random: &mut Random) -> Vec<u8> {
-    let case = random.of(&["L", "A", "C", "E", "H", "I", "J"]);
+    let case = random.of(&["L", "A", "C", "E", "H", "I", "J", "O"]);
     let mut bytes = std::fs::read(format!("{CASES}/{case}.bin")).expect("a case");
     for _ in 0..random.below(4) {
         let at = random.below(bytes.len());
@@ -181,7 +181,7 @@ fn any_command_line_is_answered() {
 
 /// A record that is mostly planned: the scissor's edges are in range, and some fields are changed.
 fn subject(random: &mut Random) -> Subject {
-    let case = random.of(&["L", "A", "C", "E", "H", "I", "J"]);
+    let case = random.of(&["L", "A", "C", "E", "H", "I", "J", "O"]);
     let bytes = std::fs::read(format!("{CASES}/{case}.bin")).expect("a case");
     let mut record: [u8; Record::BYTES] = bytes.try_into().expect("61 bytes");
     for _ in 0..random.below(6) {

@@ -9,10 +9,8 @@ use Rattle.plan.specs.declared.types.End.{End}
 use Rattle.plan.specs.Whole.{plan_of}
 use Rattle.plan.specs.Run.{entry_words, end_of, bank_step, bank_after}
 use Rattle.plan.specs.Steps.{answers, bank_to}
-use Rattle.plan.specs.Demand.{Drift, drift_of, strips_of, AllNear, Apt, ahead}
-use Rattle.drift.specs.Plain.{NearBy, AllBy, by_near}
-use Rattle.drift.proofs.Prefix.{first_by}
-use Rattle.drift.proofs.Demand3.{whole_rows}
+use Rattle.plan.specs.Demand.{Drift, drift_of, strips_of, Near, AllNear, Apt, ahead}
+use Rattle.drift.proofs.Prefix.{first_near}
 use Rattle.drift.specs.Words.{rects_from, Short}
 use Rattle.drift.proofs.Words.{short_entries}
 use Rattle.giving.specs.Host.{bank_numbers}
@@ -37,23 +35,23 @@ bank_numbers_lem (suc k) [] left b n = ap (bank_words_to k [] []) (words_after_l
 bank_numbers_lem (suc k) (x ∷ es) left b n = ap (bank_words_to k es left) (words_step_lem b n x) ∙ bank_numbers_lem k es left (bank_step b x) (eight_still b x ∙ n)
 
 -- an end is no rectangle
-ends_near : (m : ℕ) (d : Drift) (n : ℕ) (ks : List ℤ) (k : ℕ) (e : End) → AllBy m d n ks (rects_from k (joined (answered k [] e)))
+ends_near : (d : Drift) (n : ℕ) (ks : List ℤ) (k : ℕ) (e : End) → AllNear d n ks (rects_from k (joined (answered k [] e)))
 unfolding rects_from answered answers
-ends_near m d n ks zero e = tt
-ends_near m d n ks (suc k) e = ends_near m d n ks k e
+ends_near d n ks zero e = tt
+ends_near d n ks (suc k) e = ends_near d n ks k e
 
 -- so what is read back of the first k answers is near where the first k entries are
-answers_near : (m : ℕ) (d : Drift) (n : ℕ) (ks : List ℤ) (k : ℕ) (es : List Entry) (e : End) → Short es → AllBy m d n ks (take k es) → AllBy m d n ks (rects_from k (joined (answered k es e)))
+answers_near : (d : Drift) (n : ℕ) (ks : List ℤ) (k : ℕ) (es : List Entry) (e : End) → Short es → AllNear d n ks (take k es) → AllNear d n ks (rects_from k (joined (answered k es e)))
 unfolding rects_from answered answers entry_words
-answers_near m d n ks zero es e s h = tt
-answers_near m d n ks (suc k) [] e s h = ends_near m d n ks (suc k) e
-answers_near m d n ks (suc k) (Image fmt siz width address ∷ es) e s h = answers_near m d n ks k es e s h
-answers_near m d n ks (suc k) (Tile i fmt siz line tmem palette cms cmt masks maskt ∷ es) e s h = answers_near m d n ks k es e s h
-answers_near m d n ks (suc k) (Size i uls ult lrs lrt ∷ es) e s h = answers_near m d n ks k es e s h
-answers_near m d n ks (suc k) (Load i uls ult lrs lrt words rows stride start len ∷ es) e s h = answers_near m d n ks k es e s h
-answers_near m d n [] (suc k) (Rect i ulx uly lrx lry uls ult dsdx dtdy row ∷ es) e s h = absurd h
-answers_near m d n (x ∷ ks) (suc k) (Rect i ulx uly lrx lry uls ult dsdx dtdy row ∷ es) e s h =
-    ((λ j l. subst (λ (y : ℤ). NearBy m d.h x (ahead d x row y n j)) s.0 (h.0 j l)), answers_near m d (n + (lry - uly) / 4) ks k es e s.1 h.1)
+answers_near d n ks zero es e s h = tt
+answers_near d n ks (suc k) [] e s h = ends_near d n ks (suc k) e
+answers_near d n ks (suc k) (Image fmt siz width address ∷ es) e s h = answers_near d n ks k es e s h
+answers_near d n ks (suc k) (Tile i fmt siz line tmem palette cms cmt masks maskt ∷ es) e s h = answers_near d n ks k es e s h
+answers_near d n ks (suc k) (Size i uls ult lrs lrt ∷ es) e s h = answers_near d n ks k es e s h
+answers_near d n ks (suc k) (Load i uls ult lrs lrt words rows stride start len ∷ es) e s h = answers_near d n ks k es e s h
+answers_near d n [] (suc k) (Rect i ulx uly lrx lry uls ult dsdx dtdy row ∷ es) e s h = absurd h
+answers_near d n (x ∷ ks) (suc k) (Rect i ulx uly lrx lry uls ult dsdx dtdy row ∷ es) e s h =
+    ((λ j l. subst (λ (y : ℤ). Near d x (ahead d x row y n j)) s.0 (h.0 j l)), answers_near d (n + (lry - uly) / 4) ks k es e s.1 h.1)
 
 module _ (object request ws ws₁ : List ℕ) (r : ℕ) (q : length request ≡ 7) (l : length ws ≡ 39) (start : StartIs object request ws r ws₁) where
   pub host_steps_bank : {ws' bank' : List ℕ} {outs : List (List ℕ)} (b : Bank) → length b.tiles ≡ 8 → BankCalls ws₁ (bank_numbers b) outs ws' bank'
@@ -70,6 +68,5 @@ module _ (object request ws ws₁ : List ℕ) (r : ℕ) (q : length request ≡ 
       let d = drift_of a in
       let es = (plan_of a).entries in
       let k = length outs in
-      by_near d 0 (strips_of d) (rects_from k (joined outs))
-      (subst (λ (os : List (List ℕ)). AllBy 30 d 0 (strips_of d) (rects_from k (joined os))) (sym (plan_stepped object request ws ws₁ r q l start calls))
-      (answers_near 30 d 0 (strips_of d) k es (end_of (plan_of a)) (short_entries a apt.scaled) (first_by 30 d (strips_of d) k es (whole_rows a apt))))
+      subst (λ (os : List (List ℕ)). AllNear d 0 (strips_of d) (rects_from k (joined os))) (sym (plan_stepped object request ws ws₁ r q l start calls))
+      (answers_near d 0 (strips_of d) k es (end_of (plan_of a)) (short_entries a apt.scaled) (first_near a apt k))

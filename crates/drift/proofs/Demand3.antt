@@ -1,4 +1,4 @@
--- Demand 3 of every request, and of every prefix of its plan. D is docs/SPECIFICATION.md.
+-- Demand 3 of every request, from the walk in closed form. D is docs/SPECIFICATION.md.
 -- Assumes nothing.
 use Rattle.std.specs.Prelude.{◌≡◌, refl, Bool, true, false, ◌||◌, List, [], ◌∷◌, ℕ, zero, suc, ◌+◌, ◌-◌, ◌*◌, ◌/◌, ◌%◌, ◌<◌, ◌≤◌, ◌^◌, eqb, ltb, ℤ, pos, negsuc, ◌+ℤ◌, ◌-ℤ◌, ◌*ℤ◌, ◌≤ℤ◌, Ok, Err}
 use Rattle.std.proofs.Common.{sym, ap, ◌∙◌, subst, arith, div-add-mod', mod-lt, ltb-true, ltb-false, eq-eqb}
@@ -27,9 +27,9 @@ use Rattle.object.specs.declared.types.Scissor.{Scissor}
 use Rattle.checks.specs.Check.{any, object_faults, opcode_bad, copies, short, scissor_bad, refused_by, object_of, checked_of}
 use Rattle.plan.specs.Whole.{plan_of, plan_with, checked_out, scaled_out}
 use Rattle.plan.specs.Laws.{entries_out, more_nil, passes_on, passes_end}
-use Rattle.plan.specs.Demand.{Drift, drift_of, strips, strips_of, Apt, Demand3}
-use Rattle.drift.specs.Plain.{Refuses, AllBy, by_near, all_wider, plain_near, near_bind, entries_more, quiet_address, quiet_advance}
-use Rattle.drift.specs.Walk.{limit, Fixed, idle_next}
+use Rattle.plan.specs.Demand.{Drift, drift_of, strips, strips_of, AllNear, Demand3}
+use Rattle.drift.specs.Plain.{Refuses, plain_near, near_bind, entries_more, quiet_address, quiet_advance}
+use Rattle.drift.specs.Walk.{Fixed, idle_next}
 use Rattle.drift.proofs.Walk.{passes_near, idle_is}
 use Rattle.drift.specs.First.{FirstIs, drift_at, count_at}
 use Rattle.drift.proofs.First.{first_is, first_at, slice_of, above_of}
@@ -66,15 +66,15 @@ none_drawn (negsuc n) e = refl
 idle_more : (x : ℤ) (f : ℕ) → f ≡ 0 → up x ≡ 0 → up (x +ℤ pos f) ≡ 0
 idle_more x f e g = simp zdiff (simp zparts (omega zarith))
 
-pub idle_passes : (n : ℕ) (d : Drift) (earlier : ℕ) (ks : List ℤ) (z : Scaled) (w : Walk) → z.frame_rows ≡ 0 → up w.count ≡ 0 → AllBy (limit d) d earlier ks (entries_out (passes n z w))
+pub idle_passes : (n : ℕ) (d : Drift) (earlier : ℕ) (ks : List ℤ) (z : Scaled) (w : Walk) → z.frame_rows ≡ 0 → up w.count ≡ 0 → AllNear d earlier ks (entries_out (passes n z w))
 unfolding passes
 idle_passes zero d earlier ks z w e g = tt
 idle_passes (suc n) d earlier ks z w e g = by (lt_z (pos 0) w.frame_remain) refl (λ w'. idle_passes n d earlier ks z w' e)
   where
-    by : (t : Bool) → lt_z (pos 0) w.frame_remain ≡ t → ((w' : Walk) → up w'.count ≡ 0 → AllBy (limit d) d earlier ks (entries_out (passes n z w'))) → AllBy (limit d) d earlier ks (entries_out (passes (suc n) z w))
+    by : (t : Bool) → lt_z (pos 0) w.frame_remain ≡ t → ((w' : Walk) → up w'.count ≡ 0 → AllNear d earlier ks (entries_out (passes n z w'))) → AllNear d earlier ks (entries_out (passes (suc n) z w))
     by true t r =
         rw (passes_on n z w t, idle_is z w (λ next. passes n z next) (eq-eqb (draw_of w) 0 (none_drawn w.count g)))
-        (near_bind (limit d) d earlier ks (advance z w.source w.slice_rows) _ (quiet_advance z w.source w.slice_rows) (λ s h.
+        (near_bind d earlier ks (advance z w.source w.slice_rows) _ (quiet_advance z w.source w.slice_rows) (λ s h.
         rw (more_nil (passes n z (idle_next z w s))) (r (idle_next z w s) (idle_more w.count z.frame_rows e g))))
     by false t r = rw (passes_end (suc n) z w t) tt
 
@@ -118,10 +118,10 @@ module _ (z : Scaled) (i : Start) (c : Clip) (image_h start e : ℕ) (origin : �
       by : (n m : ℕ) → m ≡ n * 32 → pos start -ℤ origin ≡ pos n → pos (32 * start) ≡ pos 32 *ℤ origin +ℤ pos m
       by n m f g = let g' = simp zdiff at g in simp zdiff (omega zarith)
 
-  walk_near : (p : ℕ) → AllBy (limit numbers) numbers 0 (strips_of numbers) (entries_out (passes (65 * texels (quarters c.height)) z (first_pass z c (first_of z i) p)))
+  walk_near : (p : ℕ) → AllNear numbers 0 (strips_of numbers) (entries_out (passes (65 * texels (quarters c.height)) z (first_pass z c (first_of z i) p)))
   walk_near p = by (ltb 0 z.frame_rows) refl
     where
-      by : (t : Bool) → ltb 0 z.frame_rows ≡ t → AllBy (limit numbers) numbers 0 (strips_of numbers) (entries_out (passes (65 * texels (quarters c.height)) z (first_pass z c (first_of z i) p)))
+      by : (t : Bool) → ltb 0 z.frame_rows ≡ t → AllNear numbers 0 (strips_of numbers) (entries_out (passes (65 * texels (quarters c.height)) z (first_pass z c (first_of z i) p)))
       by true t =
           let f : 0 < z.frame_rows = ltb-true 0 z.frame_rows t in
           let k0 = slice_of z.scale_h.0 z.frame_rows far f in
@@ -129,19 +129,19 @@ module _ (z : Scaled) (i : Start) (c : Clip) (image_h start e : ℕ) (origin : �
           let hid = above_of z.scale_h.0 z.frame_rows far f in
           let g = first_is z i far f far_is in
           let x = first_fixed k0 hid g in
-          subst (λ (k : ℤ). AllBy (limit numbers) numbers 0 (strips (65 * texels (quarters c.height)) z.frame_rows k (pos (texels (quarters c.height))) (first_of z i).count) (entries_out (passes (65 * texels (quarters c.height)) z (first_pass z c (first_of z i) p)))) (sym g.slice)
+          subst (λ (k : ℤ). AllNear numbers 0 (strips (65 * texels (quarters c.height)) z.frame_rows k (pos (texels (quarters c.height))) (first_of z i).count) (entries_out (passes (65 * texels (quarters c.height)) z (first_pass z c (first_of z i) p)))) (sym g.slice)
           (passes_near (65 * texels (quarters c.height)) numbers z k0 l (far * 32 % z.scale_h.0) e x (first_pass z c (first_of z i) p) k0 0 (z.frame_rows * suc k0 - 1024 * l) (1024 * (hid * z.scale_h.0 / 1024) + 32 * (hid * z.scale_h.0 / 32 % 32))
           (first_at z i c (first_of z i) p k0 l hid image_h i.carry (texels (quarters c.height)) start (far * 32 % z.scale_h.0) e i.wrap origin g x fit.first))
       by false t =
           let f : z.frame_rows ≡ 0 = omega (arith, ltb-false 0 z.frame_rows t) in
           idle_passes (65 * texels (quarters c.height)) numbers 0 (strips_of numbers) z (first_pass z c (first_of z i) p) f (first_count z i far f far_is)
 
-  plan_near : AllBy (limit numbers) numbers 0 (strips_of numbers) (entries_out (scaled_plan z c (first_of z i)))
+  plan_near : AllNear numbers 0 (strips_of numbers) (entries_out (scaled_plan z c (first_of z i)))
   unfolding scaled_plan
   plan_near =
-      near_bind (limit numbers) numbers 0 (strips_of numbers) (source_address z.address (pos (z.stride * (first_of z i).image_row + z.x_offset))) _ (quiet_address _ _) (λ p _.
+      near_bind numbers 0 (strips_of numbers) (source_address z.address (pos (z.stride * (first_of z i).image_row + z.x_offset))) _ (quiet_address _ _) (λ p _.
       rw (entries_more (tile7 z (pos 0) ∷ Tile 0 z.fmt z.siz (z.line % 2 ^ 16) 0 z.palette 1 1 15 15 ∷ Size 0 0 0 0 0 ∷ []) (passes (65 * texels (quarters c.height)) z (first_pass z c (first_of z i) p)))
-      (plain_near (limit numbers) numbers 0 (strips_of numbers) (tile7 z (pos 0) ∷ Tile 0 z.fmt z.siz (z.line % 2 ^ 16) 0 z.palette 1 1 15 15 ∷ Size 0 0 0 0 0 ∷ []) (entries_out (passes (65 * texels (quarters c.height)) z (first_pass z c (first_of z i) p))) tt (walk_near p)))
+      (plain_near numbers 0 (strips_of numbers) (tile7 z (pos 0) ∷ Tile 0 z.fmt z.siz (z.line % 2 ^ 16) 0 z.palette 1 1 15 15 ∷ Size 0 0 0 0 0 ∷ []) (entries_out (passes (65 * texels (quarters c.height)) z (first_pass z c (first_of z i) p))) tt (walk_near p)))
 
 -- ---- the request
 
@@ -182,11 +182,11 @@ pub positive : (n : ℕ) → eqb n 0 ≡ false → 0 < n
 positive zero e = absurd (eqb-false 0 0 e refl)
 positive (suc n) e = omega arith
 
-near_if : (d : Drift) (n : ℕ) (ks : List ℤ) (t : Bool) (a b : Out (Unit {0})) → (t ≡ true → AllBy (limit d) d n ks (entries_out a)) → (t ≡ false → AllBy (limit d) d n ks (entries_out b)) → AllBy (limit d) d n ks (entries_out {A = Unit {0}} (elim t [ true ↦ a | false ↦ b ]))
+near_if : (d : Drift) (n : ℕ) (ks : List ℤ) (t : Bool) (a b : Out (Unit {0})) → (t ≡ true → AllNear d n ks (entries_out a)) → (t ≡ false → AllNear d n ks (entries_out b)) → AllNear d n ks (entries_out {A = Unit {0}} (elim t [ true ↦ a | false ↦ b ]))
 near_if d n ks true a b f g = f refl
 near_if d n ks false a b f g = g refl
 
-pub scaled_near : (bg : ObjBg) (q : Request) → 1 ≤ bg.scale_h.0 → quarters bg.image_h % 4 ≡ 0 → bg.image_y_orig.0 ≤ℤ pos (drift_from bg q).start → AllBy (limit (drift_from bg q)) (drift_from bg q) 0 (strips_of (drift_from bg q)) (entries_out (scaled_out bg q))
+pub scaled_near : (bg : ObjBg) (q : Request) → 1 ≤ bg.scale_h.0 → quarters bg.image_h % 4 ≡ 0 → bg.image_y_orig.0 ≤ℤ pos (drift_from bg q).start → AllNear (drift_from bg q) 0 (strips_of (drift_from bg q)) (entries_out (scaled_out bg q))
 unfolding scaled_out
 scaled_near bg q o m b =
     let c = clip_of bg q.scissor in
@@ -230,27 +230,16 @@ unfolding decode
 decoded_scale bs = omega arith
 
 -- a scaled request's outcome, whatever its checks refuse
-pub request_near : (q : Request) (d : Drift) (ks : List ℤ) → q.opcode ≡ 9 → AllBy (limit d) d 0 ks (entries_out (scaled_out (decode 4 false q.bytes) q))
-    → AllBy (limit d) d 0 ks (entries_out (checked_out (checked_of 4 q.bytes q.opcode q.scissor) q))
+pub request_near : (q : Request) (d : Drift) (ks : List ℤ) → q.opcode ≡ 9 → AllNear d 0 ks (entries_out (scaled_out (decode 4 false q.bytes) q))
+    → AllNear d 0 ks (entries_out (checked_out (checked_of 4 q.bytes q.opcode q.scissor) q))
 unfolding checked_out
-request_near q d ks e h = checked_scaled (λ (r : Checked). AllBy (limit d) d 0 ks (entries_out (checked_out r q))) (λ v _. tt) q.bytes q.opcode q.scissor e h
+request_near q d ks e h = checked_scaled (λ (r : Checked). AllNear d 0 ks (entries_out (checked_out r q))) (λ v _. tt) q.bytes q.opcode q.scissor e h
 
--- every scaled request whose image has whole rows and whose start is at or below the origin
-pub all_near : (q : Request) → q.opcode ≡ 9 → (drift_of q).image_h % 4 ≡ 0 → (drift_of q).origin ≤ℤ pos (drift_of q).start → AllBy (limit (drift_of q)) (drift_of q) 0 (strips_of (drift_of q)) (plan_of q).entries
+-- demand 3: every scaled request whose image has whole rows and whose start is at or below the origin
+pub demand3 : Demand3
 unfolding plan_of plan_with
-all_near q o r b =
+demand3 q a =
     let bg = decode 4 false q.bytes in
     rw (entries_is (checked_out (checked_of 4 q.bytes q.opcode q.scissor) q))
-    (request_near q (drift_of q) (strips_of (drift_of q)) o
-    (subst (λ (d : Drift). AllBy (limit d) d 0 (strips_of d) (entries_out (scaled_out bg q))) (sym (drift_is q)) (scaled_near bg q (decoded_scale q.bytes) (rw (drift_is q) at r) (rw (drift_is q) at b))))
-
--- demand 3: an origin of whole rows
-pub whole_rows : (q : Request) → Apt q → AllBy 30 (drift_of q) 0 (strips_of (drift_of q)) (plan_of q).entries
-whole_rows q a = all_wider (limit (drift_of q)) 30 (omega (arith, a.origin)) (drift_of q) 0 (strips_of (drift_of q)) (plan_of q).entries (all_near q a.scaled a.rows a.below)
-
-pub demand3 : Demand3
-demand3 q a = by_near (drift_of q) 0 (strips_of (drift_of q)) (plan_of q).entries (whole_rows q a)
-
--- and an origin between rows, which D 11.1 leaves out: 992 more behind
-pub between_rows : (q : Request) → q.opcode ≡ 9 → (drift_of q).image_h % 4 ≡ 0 → (drift_of q).origin ≤ℤ pos (drift_of q).start → AllBy 1022 (drift_of q) 0 (strips_of (drift_of q)) (plan_of q).entries
-between_rows q o r b = all_wider (limit (drift_of q)) 1022 (omega (arith, modulo_lt (drift_of q).origin {m = 32} (omega arith))) (drift_of q) 0 (strips_of (drift_of q)) (plan_of q).entries (all_near q o r b)
+    (request_near q (drift_of q) (strips_of (drift_of q)) a.scaled
+    (subst (λ (d : Drift). AllNear d 0 (strips_of d) (entries_out (scaled_out bg q))) (sym (drift_is q)) (scaled_near bg q (decoded_scale q.bytes) (rw (drift_is q) at a.rows) (rw (drift_is q) at a.below))))

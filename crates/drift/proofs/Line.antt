@@ -1,14 +1,14 @@
 -- One line of one strip: its distance in closed form, and that it is near.
 -- Assumes nothing.
-use Rattle.std.specs.Prelude.{◌≡◌, ℕ, ◌+◌, ◌*◌, ◌<◌, ◌≤◌, ◌^◌, ℤ, pos, ◌+ℤ◌, ◌-ℤ◌, ◌*ℤ◌}
-use Rattle.std.proofs.Common.{sym, ap, ◌∙◌, arith, mod-eq_of_lt}
+use Rattle.std.specs.Prelude.{◌≡◌, refl, Bool, true, false, cond, ℕ, ◌+◌, ◌*◌, ◌<◌, ◌≤◌, ◌^◌, eqb, ℤ, pos, neg_ℤ, ◌+ℤ◌, ◌-ℤ◌, ◌*ℤ◌, ◌≤ℤ◌}
+use Rattle.std.proofs.Common.{sym, ap, ◌∙◌, arith, mod-eq_of_lt, eqb-true}
 use Rattle.std.specs.Int.{w16}
 use Rattle.std.proofs.lemmas.Int.{to_z_pos}
 use Rattle.signed.specs.Diff.{up, zdiff, zarith}
 use Rattle.signed.specs.Floor.{floor_div, modulo, floor_mod, floor_unique, modulo_lt}
 use Rattle.signed.specs.Cast.{i16}
 use Rattle.measures.specs.Range.{Below, counted}
-use Rattle.drift.specs.Plain.{NearBy}
+use Rattle.plan.specs.Demand.{Drift, Near}
 
 -- a line of strip k is d = 1,024 R k + v − h S − ρ − 32 × om, om what the origin has below a whole row, with v = 1,024 × the first strip's rows + 32 × t
 pub distance : (h n start carry l rho rr k t j v r earlier om : ℕ) (q o p x : ℤ)
@@ -24,8 +24,33 @@ distance h n start carry l rho rr k t j v r earlier om q o p x ex eo es eu =
     let e = simp zdiff at eu in
     simp zdiff (omega zarith)
 
-pub near : (h s rho rr k v om : ℕ) → rho < h → h * s ≤ 1024 * (rr * k) + v + 31 → 1048576 * (rr * k) + 1024 * v ≤ 1024 * (h * s) + (1024 * h + h * k) → NearBy (30 + 32 * om) h (pos k) (pos (1024 * (rr * k) + v) -ℤ pos (h * s + rho + 32 * om))
-near h s rho rr k v om el b f = record { behind = simp zdiff (omega zarith); before = simp zdiff (omega zarith) }
+-- the limit behind has room for 30, and for 32 for each thirty-second that the origin has below a whole row
+room : (om : ℕ) → om < 32 → 30 + 32 * om ≤ cond (eqb om 0) 30 1022
+room om l = by (eqb om 0) refl
+  where
+    by : (t : Bool) → eqb om 0 ≡ t → 30 + 32 * om ≤ cond t 30 1022
+    by true e = let z : om ≡ 0 = eqb-true om 0 e in omega arith
+    by false e = omega arith
+
+wider : (h m n : ℕ) (x : ℤ) → m ≤ n → neg_ℤ (pos (h + m)) ≤ℤ x → neg_ℤ (pos (h + n)) ≤ℤ x
+wider h m n x l b = let c = simp zdiff at b in simp zdiff (omega zarith)
+
+-- a line is within the two limits
+pub near : (d : Drift) (s rho k v : ℕ) → rho < d.h → d.h * s ≤ 1024 * (d.image_rows * k) + v + 31 → 1048576 * (d.image_rows * k) + 1024 * v ≤ 1024 * (d.h * s) + (1024 * d.h + d.h * k)
+    → Near d (pos k) (pos (1024 * (d.image_rows * k) + v) -ℤ pos (d.h * s + rho + 32 * modulo d.origin 32))
+near d s rho k v r b f =
+    let om = modulo d.origin 32 in
+    let x = pos (1024 * (d.image_rows * k) + v) -ℤ pos (d.h * s + rho + 32 * om) in
+    record {
+      behind = wider d.h (30 + 32 * om) (cond (eqb om 0) 30 1022) x (room om (modulo_lt d.origin (omega arith))) (behind_by d.h d.image_rows om r b);
+      before = before_by d.h d.image_rows om f;
+    }
+  where
+    behind_by : (h rr om : ℕ) → rho < h → h * s ≤ 1024 * (rr * k) + v + 31 → neg_ℤ (pos (h + (30 + 32 * om))) ≤ℤ (pos (1024 * (rr * k) + v) -ℤ pos (h * s + rho + 32 * om))
+    behind_by h rr om r b = simp zdiff (omega zarith)
+
+    before_by : (h rr om : ℕ) → 1048576 * (rr * k) + 1024 * v ≤ 1024 * (h * s) + (1024 * h + h * k) → (pos 1024 *ℤ (pos (1024 * (rr * k) + v) -ℤ pos (h * s + rho + 32 * om))) ≤ℤ (pos h *ℤ (pos 1024 +ℤ pos k))
+    before_by h rr om b = simp zdiff (omega zarith)
 
 -- a `t` below 32 is its own cast to 16 bits
 small : (t : ℕ) → t < 32 → i16 (pos t) ≡ pos t

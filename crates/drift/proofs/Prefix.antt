@@ -1,7 +1,7 @@
 -- Demand 3 of what a caller sees: any prefix of the plan, the first n entries, the answers of n steps, a plan cut by its buffer.
 -- Assumes nothing.
-use Rattle.std.specs.Prelude.{◌≡◌, refl, Bool, true, false, cond, List, [], ◌∷◌, ◌++◌, ℕ, zero, suc, ◌/◌, ltb, length, take, drop, ℤ}
-use Rattle.std.proofs.Common.{ap, subst, take-append-drop}
+use Rattle.std.specs.Prelude.{◌≡◌, refl, Bool, true, false, cond, List, [], ◌∷◌, ◌++◌, ℕ, zero, suc, ◌/◌, ltb, length, take, drop}
+use Rattle.std.proofs.Common.{sym, ap, subst, take-append-drop}
 use Rattle.plan.specs.Request.{Request}
 use Rattle.plan.specs.declared.types.Entry.{Entry}
 use Rattle.tile.specs.declared.bank.Bank.{Bank}
@@ -10,23 +10,18 @@ use Rattle.plan.specs.declared.types.End.{End}
 use Rattle.object.specs.declared.types.Verdict.TheVariants.{Full}
 use Rattle.plan.specs.Run.{cut_at}
 use Rattle.plan.specs.Steps.{Stepped, StepsGive, answers_of, answers}
-use Rattle.plan.specs.Demand.{Drift, drift_of, strips_of, AllNear, Apt}
-use Rattle.drift.specs.Plain.{AllBy, by_near, near_prefix}
-use Rattle.drift.proofs.Demand3.{demand3, whole_rows}
+use Rattle.plan.specs.Demand.{drift_of, strips_of, AllNear, Apt}
+use Rattle.drift.specs.Plain.{near_prefix}
+use Rattle.drift.proofs.Demand3.{demand3}
 use Rattle.drift.specs.Prefix.{entries_in}
-
--- the first entries of a list that is near, with any limit
-pub first_by : (m : ℕ) (d : Drift) (ks : List ℤ) (n : ℕ) (es : List Entry) → AllBy m d 0 ks es → AllBy m d 0 ks (take n es)
-first_by m d ks n es h = near_prefix m d 0 ks (take n es) (drop n es) (rw (take-append-drop n es) h)
 
 -- any prefix of the plan
 pub prefix_near : (q : Request) → Apt q → (es fs : List Entry) → (plan_of q).entries ≡ es ++ fs → AllNear (drift_of q) 0 (strips_of (drift_of q)) es
-prefix_near q a es fs e =
-    by_near (drift_of q) 0 (strips_of (drift_of q)) es (near_prefix 30 (drift_of q) 0 (strips_of (drift_of q)) es fs (subst (λ (x : List Entry). AllBy 30 (drift_of q) 0 (strips_of (drift_of q)) x) e (whole_rows q a)))
+prefix_near q a es fs e = near_prefix (drift_of q) 0 (strips_of (drift_of q)) es fs (subst (λ (x : List Entry). AllNear (drift_of q) 0 (strips_of (drift_of q)) x) e (demand3 q a))
 
 -- the first n entries
 pub first_near : (q : Request) → Apt q → (n : ℕ) → AllNear (drift_of q) 0 (strips_of (drift_of q)) (take n (plan_of q).entries)
-first_near q a n = by_near (drift_of q) 0 (strips_of (drift_of q)) (take n (plan_of q).entries) (first_by 30 (drift_of q) (strips_of (drift_of q)) n (plan_of q).entries (whole_rows q a))
+first_near q a n = prefix_near q a (take n (plan_of q).entries) (drop n (plan_of q).entries) (sym (take-append-drop n (plan_of q).entries))
 
 none_given : (n : ℕ) (e : End) → entries_in (answers n [] e) ≡ []
 unfolding entries_in answers

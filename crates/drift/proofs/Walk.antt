@@ -14,11 +14,11 @@ use Rattle.plan.specs.declared.types.Source.{Source}
 use Rattle.plan.specs.declared.types.Walk.{Walk}
 use Rattle.plan.specs.Scaled.{row_of, draw_of, next_pass, advance, load_1cyc, draw_pass, idle_pass, pass, passes}
 use Rattle.plan.specs.Laws.{entries_out, bind_assoc, more_nil, passes_on, passes_end}
-use Rattle.plan.specs.Demand.{Drift, strips, ahead}
+use Rattle.plan.specs.Demand.{Drift, strips, ahead, Near, AllNear}
 use Rattle.drift.specs.Core
-use Rattle.drift.specs.Plain.{NearBy, AllBy, After, plainly, wrapping, entries_more, near_bind, quiet_advance, quiet_rows}
+use Rattle.drift.specs.Plain.{After, plainly, wrapping, entries_more, near_bind, quiet_advance, quiet_rows}
 use Rattle.drift.proofs.Line.{distance, near, small_at, shifted}
-use Rattle.drift.specs.Walk.{limit, row_at, Fixed, At, pass_left, pass_lines, pass_rows, pass_rect, drawn_next, idle_next}
+use Rattle.drift.specs.Walk.{row_at, Fixed, At, pass_left, pass_lines, pass_rows, pass_rect, drawn_next, idle_next}
 
 one_more : (o c a b i : ℤ) → b ≡ a +ℤ i → b +ℤ o +ℤ c ≡ a +ℤ o +ℤ c +ℤ i
 one_more o c a b i e = rw e (simp zdiff (omega zarith))
@@ -47,9 +47,9 @@ line_distance d z k0 l rho e w k earlier c v f a j = by (row_of z w.source.remai
         rw (p, q, r) (distance d.h d.source_rows d.start d.carry l rho d.image_rows k (thirty_seconds w.t) j v (modulo (row_at d (pos k)) d.source_rows) earlier (modulo d.origin 32) (floor_div (row_at d (pos k)) d.source_rows) d.origin (floor_div d.origin 32) (row_at d (pos k)) (floor_mod (row_at d (pos k)) d.source_rows f.some) (floor_mod d.origin 32 (omega arith)) f.offset a.sampled)
 
 -- each line of a strip is near
-pub line_near : (d : Drift) (z : Scaled) (k0 l rho e : ℕ) (w : Walk) (k earlier c v : ℕ) → Fixed d z k0 l rho e → At d z k0 l w k earlier c v → (j : ℕ) → NearBy (limit d) d.h (pos k) (ahead d (pos k) (row_of z w.source.remain) (i16 w.t.0) earlier j)
+pub line_near : (d : Drift) (z : Scaled) (k0 l rho e : ℕ) (w : Walk) (k earlier c v : ℕ) → Fixed d z k0 l rho e → At d z k0 l w k earlier c v → (j : ℕ) → Near d (pos k) (ahead d (pos k) (row_of z w.source.remain) (i16 w.t.0) earlier j)
 line_near d z k0 l rho e w k earlier c v f a j =
-    subst (λ (x : ℤ). NearBy (limit d) d.h (pos k) x) (sym (line_distance d z k0 l rho e w k earlier c v f a j)) (near d.h (l + earlier) rho d.image_rows k v (modulo d.origin 32) f.rest a.behind a.before)
+    subst (λ (x : ℤ). Near d (pos k) x) (sym (line_distance d z k0 l rho e w k earlier c v f a j)) (near d (l + earlier) rho k v f.rest a.behind a.before)
 
 -- `remain` after a pass, as a congruence
 pub row_after : (d : Drift) (z : Scaled) (k0 l rho e : ℕ) (w : Walk) (k earlier c v : ℕ) → Fixed d z k0 l rho e → At d z k0 l w k earlier c v → (s : Source) → After z.source_rows w.source.remain w.slice_rows s
@@ -107,7 +107,7 @@ strips_draw n f k left count p q = rw (p, q, strips)
 
 -- ---- the induction
 
-ends : (n : ℕ) (d : Drift) (e : ℕ) (ks : List ℤ) (z : Scaled) (w : Walk) → lt_z (pos 0) w.frame_remain ≡ false → AllBy (limit d) d e ks (entries_out (passes n z w))
+ends : (n : ℕ) (d : Drift) (e : ℕ) (ks : List ℤ) (z : Scaled) (w : Walk) → lt_z (pos 0) w.frame_remain ≡ false → AllNear d e ks (entries_out (passes n z w))
 ends n d e ks z w t = rw (passes_end n z w t) tt
 
 not_above : (x : ℤ) → lt_z x (pos 0) ≡ true → lt_z (pos 0) x ≡ false
@@ -118,18 +118,18 @@ pub lines_apart : (y n : ℕ) → ((y + n) * 4 - y * 4) / 4 ≡ n
 lines_apart y n = omega arith
 
 module _ (d : Drift) (z : Scaled) (k0 l rho e : ℕ) (f : Fixed d z k0 l rho e) (n : ℕ) (w : Walk) (k earlier c v : ℕ) (a : At d z k0 l w k earlier c v)
-    (rec : (w' : Walk) (k' earlier' c' v' : ℕ) → At d z k0 l w' k' earlier' c' v' → AllBy (limit d) d earlier' (strips n z.frame_rows (pos k') w'.frame_remain w'.count) (entries_out (passes n z w')))
+    (rec : (w' : Walk) (k' earlier' c' v' : ℕ) → At d z k0 l w' k' earlier' c' v' → AllNear d earlier' (strips n z.frame_rows (pos k') w'.frame_remain w'.count) (entries_out (passes n z w')))
     (some : lt_z (pos 0) w.frame_remain ≡ true) where
   drawn_is : draw_of w ≡ c / 1024
   drawn_is = ap (λ (u : ℤ). up (floor_div u 1024)) a.count
 
-  idle_near : eqb (draw_of w) 0 ≡ true → AllBy (limit d) d earlier (strips (suc n) z.frame_rows (pos k) w.frame_remain w.count) (entries_out (pass z w >>= (λ next. passes n z next)))
+  idle_near : eqb (draw_of w) 0 ≡ true → AllNear d earlier (strips (suc n) z.frame_rows (pos k) w.frame_remain w.count) (entries_out (pass z w >>= (λ next. passes n z next)))
   idle_near p =
       let none : draw_of w ≡ 0 = eqb-true (draw_of w) 0 p in
       let same : draw_of w ≡ c / 1024 = drawn_is in
       let few : c < 1024 = omega arith in
       rw (strips_idle n z.frame_rows (pos k) w.frame_remain w.count some p, idle_is z w (λ next. passes n z next) p, add-one k)
-      (near_bind (limit d) d earlier _ (advance z w.source w.slice_rows) _ (quiet_advance z w.source w.slice_rows) (λ s h.
+      (near_bind d earlier _ (advance z w.source w.slice_rows) _ (quiet_advance z w.source w.slice_rows) (λ s h.
       rw (more_nil (passes n z (idle_next z w s)))
       (rec (idle_next z w s) (suc k) earlier (c + z.frame_rows) 0 (next_at d z k0 l rho e w k earlier c v f a w.frame_y w.frame_remain w.count s c earlier h a.count few a.lines))))
 
@@ -140,13 +140,13 @@ module _ (d : Drift) (z : Scaled) (k0 l rho e : ℕ) (f : Fixed d z k0 l rho e) 
   uncut_rows t = ap (λ (u : Bool). cond u (min_z (w.slice_rows +ℤ floor_div (pass_left w *ℤ pos z.scale_h.0) 1024 +ℤ pos 1) (pos z.image_rows)) w.slice_rows) t
 
   -- after the rectangle: the walk is over, or goes on in the closed form
-  rest_near : (s : Source) → After z.source_rows w.source.remain (pass_rows z w) s → AllBy (limit d) d (earlier + pass_lines w) (strips n z.frame_rows (pos (suc k)) (pass_left w) (pos (modulo w.count 1024) +ℤ pos z.frame_rows)) (entries_out (passes n z (drawn_next z w s)))
+  rest_near : (s : Source) → After z.source_rows w.source.remain (pass_rows z w) s → AllNear d (earlier + pass_lines w) (strips n z.frame_rows (pos (suc k)) (pass_left w) (pos (modulo w.count 1024) +ℤ pos z.frame_rows)) (entries_out (passes n z (drawn_next z w s)))
   rest_near s h = by (lt_z (pass_left w) (pos 0)) refl
     where
       next : Walk
       next = drawn_next z w s
 
-      by : (t : Bool) → lt_z (pass_left w) (pos 0) ≡ t → AllBy (limit d) d (earlier + pass_lines w) (strips n z.frame_rows (pos (suc k)) (pass_left w) (pos (modulo w.count 1024) +ℤ pos z.frame_rows)) (entries_out (passes n z next))
+      by : (t : Bool) → lt_z (pass_left w) (pos 0) ≡ t → AllNear d (earlier + pass_lines w) (strips n z.frame_rows (pos (suc k)) (pass_left w) (pos (modulo w.count 1024) +ℤ pos z.frame_rows)) (entries_out (passes n z next))
       by true t = ends n d (earlier + pass_lines w) (strips n z.frame_rows (pos (suc k)) (pass_left w) (pos (modulo w.count 1024) +ℤ pos z.frame_rows)) z next (not_above (pass_left w) t)
       by false t =
           let same : draw_of w ≡ c / 1024 = drawn_is in
@@ -156,26 +156,26 @@ module _ (d : Drift) (z : Scaled) (k0 l rho e : ℕ) (f : Fixed d z k0 l rho e) 
           rec next (suc k) (earlier + pass_lines w) (c % 1024 + z.frame_rows) 0
           (next_at d z k0 l rho e w k earlier c v f a (w.frame_y + pass_lines w) (pass_left w) (pos (modulo w.count 1024)) s (c % 1024) (earlier + pass_lines w) u (ap (λ (u : ℤ). pos (modulo u 1024)) a.count) (omega arith) (omega arith))
 
-  draw_near : eqb (draw_of w) 0 ≡ false → AllBy (limit d) d earlier (strips (suc n) z.frame_rows (pos k) w.frame_remain w.count) (entries_out (pass z w >>= (λ next. passes n z next)))
+  draw_near : eqb (draw_of w) 0 ≡ false → AllNear d earlier (strips (suc n) z.frame_rows (pos k) w.frame_remain w.count) (entries_out (pass z w >>= (λ next. passes n z next)))
   draw_near p =
       rw (strips_draw n z.frame_rows (pos k) w.frame_remain w.count some p, draw_is z w (λ next. passes n z next) p, add-one k)
-      (near_bind (limit d) d earlier _ (load_1cyc z w.source (pass_rows z w)) _ (quiet_rows z w.source (pass_rows z w)) (λ s h.
+      (near_bind d earlier _ (load_1cyc z w.source (pass_rows z w)) _ (quiet_rows z w.source (pass_rows z w)) (λ s h.
       rw (entries_more (pass_rect z w ∷ []) (passes n z (drawn_next z w s)))
       ((λ j _. line_near d z k0 l rho e w k earlier c v f a j), rw (lines_apart w.frame_y (pass_lines w)) (rest_near s h))))
 
 -- each rectangle of the passes is near, from any point of the walk
-pub passes_near : (n : ℕ) (d : Drift) (z : Scaled) (k0 l rho e : ℕ) → Fixed d z k0 l rho e → (w : Walk) (k earlier c v : ℕ) → At d z k0 l w k earlier c v → AllBy (limit d) d earlier (strips n z.frame_rows (pos k) w.frame_remain w.count) (entries_out (passes n z w))
+pub passes_near : (n : ℕ) (d : Drift) (z : Scaled) (k0 l rho e : ℕ) → Fixed d z k0 l rho e → (w : Walk) (k earlier c v : ℕ) → At d z k0 l w k earlier c v → AllNear d earlier (strips n z.frame_rows (pos k) w.frame_remain w.count) (entries_out (passes n z w))
 unfolding strips passes
 passes_near zero d z k0 l rho e f w k earlier c v a = tt
 passes_near (suc n) d z k0 l rho e f w k earlier c v a = by (lt_z (pos 0) w.frame_remain) refl (λ w' k' e' c' v'. passes_near n d z k0 l rho e f w' k' e' c' v')
   where
-    lined : (r : (w' : Walk) (k' earlier' c' v' : ℕ) → At d z k0 l w' k' earlier' c' v' → AllBy (limit d) d earlier' (strips n z.frame_rows (pos k') w'.frame_remain w'.count) (entries_out (passes n z w')))
-        → lt_z (pos 0) w.frame_remain ≡ true → (t : Bool) → eqb (draw_of w) 0 ≡ t → AllBy (limit d) d earlier (strips (suc n) z.frame_rows (pos k) w.frame_remain w.count) (entries_out (pass z w >>= (λ next. passes n z next)))
+    lined : (r : (w' : Walk) (k' earlier' c' v' : ℕ) → At d z k0 l w' k' earlier' c' v' → AllNear d earlier' (strips n z.frame_rows (pos k') w'.frame_remain w'.count) (entries_out (passes n z w')))
+        → lt_z (pos 0) w.frame_remain ≡ true → (t : Bool) → eqb (draw_of w) 0 ≡ t → AllNear d earlier (strips (suc n) z.frame_rows (pos k) w.frame_remain w.count) (entries_out (pass z w >>= (λ next. passes n z next)))
     lined r s true t = idle_near d z k0 l rho e f n w k earlier c v a r s t
     lined r s false t = draw_near d z k0 l rho e f n w k earlier c v a r s t
 
     by : (t : Bool) → lt_z (pos 0) w.frame_remain ≡ t
-        → ((w' : Walk) (k' earlier' c' v' : ℕ) → At d z k0 l w' k' earlier' c' v' → AllBy (limit d) d earlier' (strips n z.frame_rows (pos k') w'.frame_remain w'.count) (entries_out (passes n z w')))
-        → AllBy (limit d) d earlier (strips (suc n) z.frame_rows (pos k) w.frame_remain w.count) (entries_out (passes (suc n) z w))
+        → ((w' : Walk) (k' earlier' c' v' : ℕ) → At d z k0 l w' k' earlier' c' v' → AllNear d earlier' (strips n z.frame_rows (pos k') w'.frame_remain w'.count) (entries_out (passes n z w')))
+        → AllNear d earlier (strips (suc n) z.frame_rows (pos k) w.frame_remain w.count) (entries_out (passes (suc n) z w))
     by true t r = rw (passes_on n z w t) (lined r t (eqb (draw_of w) 0) refl)
     by false t r = ends (suc n) d earlier (strips (suc n) z.frame_rows (pos k) w.frame_remain w.count) z w t

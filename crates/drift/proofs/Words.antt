@@ -33,13 +33,13 @@ use Rattle.plan.specs.Whole.{plan_of, plan_with, checked_out, scaled_out}
 use Rattle.plan.specs.Run.{Ran, rectangles, entry_words, plan_words, cut_at, end_of, run_of}
 use Rattle.plan.specs.Steps.{RunGives}
 use Rattle.plan.specs.Laws.{entries_out, more_nil, passes_on, passes_end}
-use Rattle.plan.specs.Demand.{Drift, drift_of, strips_of, AllNear, Apt, ahead}
-use Rattle.drift.specs.Plain.{Plain, NearBy, AllBy, by_near, Quiet, entries_more, quiet_address, quiet_advance, quiet_rows}
+use Rattle.plan.specs.Demand.{Drift, drift_of, strips_of, Near, AllNear, Apt, ahead}
+use Rattle.drift.specs.Plain.{Plain, Quiet, entries_more, quiet_address, quiet_advance, quiet_rows}
 use Rattle.drift.proofs.Line.{small_at}
 use Rattle.drift.specs.Walk.{pass_rows, pass_rect, pass_lines, pass_left, drawn_next, idle_next}
 use Rattle.drift.proofs.Walk.{idle_is, draw_is, lines_apart}
-use Rattle.drift.proofs.Demand3.{checked_scaled, whole_rows}
-use Rattle.drift.proofs.Prefix.{first_by}
+use Rattle.drift.proofs.Demand3.{checked_scaled}
+use Rattle.drift.proofs.Prefix.{cut_near}
 use Rattle.drift.specs.Words.{rects_from, Short, Drawn}
 
 plain_drawn : (es fs : List Entry) → Plain es → Drawn fs → Drawn (es ++ fs)
@@ -186,16 +186,16 @@ unfolding plan_of plan_with
 short_entries q e = plan_of_lem (checked_out (checked_of 4 q.bytes q.opcode q.scissor) q) (short_request q e)
 
 -- what the words read back as is near where the entries are
-pub words_near : (m : ℕ) (d : Drift) (n : ℕ) (ks : List ℤ) (es : List Entry) (ws : List ℕ) → Short es → AllBy m d n ks es → AllBy m d n ks (rects_from (length es) (plan_words es ++ ws))
+pub words_near : (d : Drift) (n : ℕ) (ks : List ℤ) (es : List Entry) (ws : List ℕ) → Short es → AllNear d n ks es → AllNear d n ks (rects_from (length es) (plan_words es ++ ws))
 unfolding rects_from plan_words entry_words
-words_near m d n ks [] ws s h = tt
-words_near m d n ks (Image fmt siz width address ∷ es) ws s h = words_near m d n ks es ws s h
-words_near m d n ks (Tile i fmt siz line tmem palette cms cmt masks maskt ∷ es) ws s h = words_near m d n ks es ws s h
-words_near m d n ks (Size i uls ult lrs lrt ∷ es) ws s h = words_near m d n ks es ws s h
-words_near m d n ks (Load i uls ult lrs lrt words rows stride start len ∷ es) ws s h = words_near m d n ks es ws s h
-words_near m d n [] (Rect i ulx uly lrx lry uls ult dsdx dtdy row ∷ es) ws s h = absurd h
-words_near m d n (k ∷ ks) (Rect i ulx uly lrx lry uls ult dsdx dtdy row ∷ es) ws s h =
-    ((λ j l. subst (λ (x : ℤ). NearBy m d.h k (ahead d k row x n j)) s.0 (h.0 j l)), words_near m d (n + (lry - uly) / 4) ks es ws s.1 h.1)
+words_near d n ks [] ws s h = tt
+words_near d n ks (Image fmt siz width address ∷ es) ws s h = words_near d n ks es ws s h
+words_near d n ks (Tile i fmt siz line tmem palette cms cmt masks maskt ∷ es) ws s h = words_near d n ks es ws s h
+words_near d n ks (Size i uls ult lrs lrt ∷ es) ws s h = words_near d n ks es ws s h
+words_near d n ks (Load i uls ult lrs lrt words rows stride start len ∷ es) ws s h = words_near d n ks es ws s h
+words_near d n [] (Rect i ulx uly lrx lry uls ult dsdx dtdy row ∷ es) ws s h = absurd h
+words_near d n (k ∷ ks) (Rect i ulx uly lrx lry uls ult dsdx dtdy row ∷ es) ws s h =
+    ((λ j l. subst (λ (x : ℤ). Near d k (ahead d k row x n j)) s.0 (h.0 j l)), words_near d (n + (lry - uly) / 4) ks es ws s.1 h.1)
 
 -- every rectangle is read back
 pub rects_all : (es : List Entry) (ws : List ℕ) → length (rects_from (length es) (plan_words es ++ ws)) ≡ rectangles es
@@ -207,14 +207,6 @@ rects_all (Size i uls ult lrs lrt ∷ es) ws = rects_all es ws
 rects_all (Load i uls ult lrs lrt words rows stride start len ∷ es) ws = rects_all es ws
 rects_all (Rect i ulx uly lrx lry uls ult dsdx dtdy row ∷ es) ws = omega (arith, rects_all es ws)
 
-cut_by : (m : ℕ) (d : Drift) (ks : List ℤ) (n : ℕ) (p : Plan) → AllBy m d 0 ks p.entries → AllBy m d 0 ks (cut_at n p).entries
-unfolding cut_at
-cut_by m d ks n p h = by (ltb (n / 11) (length p.entries))
-  where
-    by : (t : Bool) → AllBy m d 0 ks (cond t (record { entries = take (n / 11) p.entries; left = []; verdict = Full }) p).entries
-    by true = first_by m d ks (n / 11) p.entries h
-    by false = h
-
 cut_short : (n : ℕ) (p : Plan) → Short p.entries → Short (cut_at n p).entries
 unfolding cut_at
 cut_short n p h = by (ltb (n / 11) (length p.entries))
@@ -223,17 +215,12 @@ cut_short n p h = by (ltb (n / 11) (length p.entries))
     by true = short_prefix (take (n / 11) p.entries) (drop (n / 11) p.entries) (rw (take-append-drop (n / 11) p.entries) h)
     by false = h
 
--- a run into any buffer, read back from the buffer and the end's count of entries alone, with any limit
-pub run_by : (m : ℕ) (d : Drift) (ks : List ℤ) (q : Request) (buf : List ℕ) (b : Bank) → q.opcode ≡ 9 → AllBy m d 0 ks (plan_of q).entries → AllBy m d 0 ks (rects_from (run_of (plan_of q) buf b).end.entries (run_of (plan_of q) buf b).buffer)
-unfolding run_of end_of
-run_by m d ks q buf b e h =
-    let p = cut_at (length buf) (plan_of q) in
-    words_near m d 0 ks p.entries (drop (11 * length p.entries) buf) (cut_short (length buf) (plan_of q) (short_entries q e)) (cut_by m d ks (length buf) (plan_of q) h)
-
--- demand 3 of a whole run
+-- demand 3 of a whole run into any buffer, read back from the buffer and the end's count of entries alone
 pub run_near : (q : Request) → Apt q → (buf : List ℕ) (b : Bank) → AllNear (drift_of q) 0 (strips_of (drift_of q)) (rects_from (run_of (plan_of q) buf b).end.entries (run_of (plan_of q) buf b).buffer)
+unfolding run_of end_of
 run_near q a buf b =
-    by_near (drift_of q) 0 (strips_of (drift_of q)) (rects_from (run_of (plan_of q) buf b).end.entries (run_of (plan_of q) buf b).buffer) (run_by 30 (drift_of q) (strips_of (drift_of q)) q buf b a.scaled (whole_rows q a))
+    let p = cut_at (length buf) (plan_of q) in
+    words_near (drift_of q) 0 (strips_of (drift_of q)) p.entries (drop (11 * length p.entries) buf) (cut_short (length buf) (plan_of q) (short_entries q a.scaled)) (cut_near q a (length buf))
 
 -- and of any run's definition that is this one
 pub ran_near : (ran_of : Request → List ℕ → Bank → Ran) → RunGives ran_of → (q : Request) → Apt q → (buf : List ℕ) (b : Bank) → AllNear (drift_of q) 0 (strips_of (drift_of q)) (rects_from (ran_of q buf b).end.entries (ran_of q buf b).buffer)

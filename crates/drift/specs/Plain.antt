@@ -1,8 +1,8 @@
--- Entries that are no rectangles, outcomes that have only such entries, and what that means for `AllBy`.
+-- Entries that are no rectangles, outcomes that have only such entries, and what that means for `AllNear`.
 -- Assumes nothing.
-use Rattle.std.specs.Prelude.{◌≡◌, refl, Bool, true, false, ◌||◌, List, [], ◌∷◌, ◌++◌, ℕ, ◌+◌, ◌-◌, ◌/◌, ◌<◌, ◌≤◌, ◌^◌, ltb, eqb, ℤ, pos, neg_ℤ, ◌+ℤ◌, ◌-ℤ◌, ◌*ℤ◌, ◌≤ℤ◌, Option, Some, None}
+use Rattle.std.specs.Prelude.{◌≡◌, refl, Bool, true, false, ◌||◌, List, [], ◌∷◌, ◌++◌, ℕ, ◌+◌, ◌-◌, ◌/◌, ◌^◌, ltb, eqb, ℤ, pos, ◌+ℤ◌, ◌-ℤ◌, Option, Some, None}
 use Rattle.std.specs.Int.Signed.{lt_z, le_z}
-use Rattle.signed.specs.Diff.{up, zdiff, zarith}
+use Rattle.signed.specs.Diff.{up}
 use Rattle.signed.specs.Floor.{modulo}
 use Rattle.plan.specs.declared.types.Entry.{Entry}
 use Rattle.plan.specs.Out.{Out, more, ◌>>=◌, yield, emit}
@@ -18,7 +18,7 @@ use Rattle.plan.specs.declared.types.Scaled.{Scaled}
 use Rattle.plan.specs.declared.types.Source.{Source}
 use Rattle.plan.specs.Scaled.{back, tile7, load_part, load_1cyc_tile, from_top, split_row, up_to_end, advance, load_1cyc}
 use Rattle.plan.specs.Laws.{entries_out}
-use Rattle.plan.specs.Demand.{Drift, AllNear, ahead}
+use Rattle.plan.specs.Demand.{Drift, AllNear}
 
 abbrev pub Plain : List Entry → Type 0
 Plain [] = Unit {0}
@@ -36,71 +36,32 @@ plain_append (Size i uls ult lrs lrt ∷ es) fs p q = plain_append es fs p q
 plain_append (Load i uls ult lrs lrt words rows stride start len ∷ es) fs p q = plain_append es fs p q
 plain_append (Rect i ulx uly lrx lry uls ult dsdx dtdy row ∷ es) fs p q = absurd p
 
--- demand 3's limits with m in place of 30 behind
-pub record NearBy (m h : ℕ) (k d : ℤ) : Type 0 where
-  pub behind : neg_ℤ (pos (h + m)) ≤ℤ d
-  pub before : (pos 1024 *ℤ d) ≤ℤ (pos h *ℤ (pos 1024 +ℤ k))
-
--- `AllNear` with these limits
-abbrev pub AllBy : ℕ → Drift → (earlier : ℕ) → List ℤ → List Entry → Type 0
-AllBy m d n ks [] = Unit {0}
-AllBy m d n ks (Image fmt siz width address ∷ es) = AllBy m d n ks es
-AllBy m d n ks (Tile i fmt siz line tmem palette cms cmt masks maskt ∷ es) = AllBy m d n ks es
-AllBy m d n ks (Size i uls ult lrs lrt ∷ es) = AllBy m d n ks es
-AllBy m d n ks (Load i uls ult lrs lrt words rows stride start len ∷ es) = AllBy m d n ks es
-AllBy m d n [] (Rect i ulx uly lrx lry uls ult dsdx dtdy row ∷ es) = ⊥
-AllBy m d n (k ∷ ks) (Rect i ulx uly lrx lry uls ult dsdx dtdy row ∷ es) =
-    ((j : ℕ) → j < (lry - uly) / 4 → NearBy m d.h k (ahead d k row ult n j)) × AllBy m d (n + (lry - uly) / 4) ks es
-
--- with 30 they are demand 3's
-pub by_near : (d : Drift) (n : ℕ) (ks : List ℤ) (es : List Entry) → AllBy 30 d n ks es → AllNear d n ks es
-by_near d n ks [] q = tt
-by_near d n ks (Image fmt siz width address ∷ es) q = by_near d n ks es q
-by_near d n ks (Tile i fmt siz line tmem palette cms cmt masks maskt ∷ es) q = by_near d n ks es q
-by_near d n ks (Size i uls ult lrs lrt ∷ es) q = by_near d n ks es q
-by_near d n ks (Load i uls ult lrs lrt words rows stride start len ∷ es) q = by_near d n ks es q
-by_near d n [] (Rect i ulx uly lrx lry uls ult dsdx dtdy row ∷ es) q = absurd q
-by_near d n (k ∷ ks) (Rect i ulx uly lrx lry uls ult dsdx dtdy row ∷ es) q = ((λ j h. record { behind = (q.0 j h).behind; before = (q.0 j h).before }), by_near d (n + (lry - uly) / 4) ks es q.1)
-
--- a wider limit
-wider : (m m' h : ℕ) (k d : ℤ) → m ≤ m' → NearBy m h k d → NearBy m' h k d
-wider m m' h k d l b = let c = simp zdiff at b.behind in record { behind = simp zdiff (omega zarith); before = b.before }
-
-pub all_wider : (m m' : ℕ) → m ≤ m' → (d : Drift) (n : ℕ) (ks : List ℤ) (es : List Entry) → AllBy m d n ks es → AllBy m' d n ks es
-all_wider m m' l d n ks [] q = tt
-all_wider m m' l d n ks (Image fmt siz width address ∷ es) q = all_wider m m' l d n ks es q
-all_wider m m' l d n ks (Tile i fmt siz line tmem palette cms cmt masks maskt ∷ es) q = all_wider m m' l d n ks es q
-all_wider m m' l d n ks (Size i uls ult lrs lrt ∷ es) q = all_wider m m' l d n ks es q
-all_wider m m' l d n ks (Load i uls ult lrs lrt words rows stride start len ∷ es) q = all_wider m m' l d n ks es q
-all_wider m m' l d n [] (Rect i ulx uly lrx lry uls ult dsdx dtdy row ∷ es) q = absurd q
-all_wider m m' l d n (k ∷ ks) (Rect i ulx uly lrx lry uls ult dsdx dtdy row ∷ es) q = ((λ j h. wider m m' d.h k (ahead d k row ult n j) l (q.0 j h)), all_wider m m' l d (n + (lry - uly) / 4) ks es q.1)
-
 -- entries without a rectangle are skipped
-pub plain_near : (m : ℕ) (d : Drift) (n : ℕ) (ks : List ℤ) (es fs : List Entry) → Plain es → AllBy m d n ks fs → AllBy m d n ks (es ++ fs)
-plain_near m d n ks [] fs p q = q
-plain_near m d n ks (Image fmt siz width address ∷ es) fs p q = plain_near m d n ks es fs p q
-plain_near m d n ks (Tile i fmt siz line tmem palette cms cmt masks maskt ∷ es) fs p q = plain_near m d n ks es fs p q
-plain_near m d n ks (Size i uls ult lrs lrt ∷ es) fs p q = plain_near m d n ks es fs p q
-plain_near m d n ks (Load i uls ult lrs lrt words rows stride start len ∷ es) fs p q = plain_near m d n ks es fs p q
-plain_near m d n ks (Rect i ulx uly lrx lry uls ult dsdx dtdy row ∷ es) fs p q = absurd p
+pub plain_near : (d : Drift) (n : ℕ) (ks : List ℤ) (es fs : List Entry) → Plain es → AllNear d n ks fs → AllNear d n ks (es ++ fs)
+plain_near d n ks [] fs p q = q
+plain_near d n ks (Image fmt siz width address ∷ es) fs p q = plain_near d n ks es fs p q
+plain_near d n ks (Tile i fmt siz line tmem palette cms cmt masks maskt ∷ es) fs p q = plain_near d n ks es fs p q
+plain_near d n ks (Size i uls ult lrs lrt ∷ es) fs p q = plain_near d n ks es fs p q
+plain_near d n ks (Load i uls ult lrs lrt words rows stride start len ∷ es) fs p q = plain_near d n ks es fs p q
+plain_near d n ks (Rect i ulx uly lrx lry uls ult dsdx dtdy row ∷ es) fs p q = absurd p
 
-pub plain_alone : (m : ℕ) (d : Drift) (n : ℕ) (ks : List ℤ) (es : List Entry) → Plain es → AllBy m d n ks es
-plain_alone m d n ks [] p = tt
-plain_alone m d n ks (Image fmt siz width address ∷ es) p = plain_alone m d n ks es p
-plain_alone m d n ks (Tile i fmt siz line tmem palette cms cmt masks maskt ∷ es) p = plain_alone m d n ks es p
-plain_alone m d n ks (Size i uls ult lrs lrt ∷ es) p = plain_alone m d n ks es p
-plain_alone m d n ks (Load i uls ult lrs lrt words rows stride start len ∷ es) p = plain_alone m d n ks es p
-plain_alone m d n ks (Rect i ulx uly lrx lry uls ult dsdx dtdy row ∷ es) p = absurd p
+pub plain_alone : (d : Drift) (n : ℕ) (ks : List ℤ) (es : List Entry) → Plain es → AllNear d n ks es
+plain_alone d n ks [] p = tt
+plain_alone d n ks (Image fmt siz width address ∷ es) p = plain_alone d n ks es p
+plain_alone d n ks (Tile i fmt siz line tmem palette cms cmt masks maskt ∷ es) p = plain_alone d n ks es p
+plain_alone d n ks (Size i uls ult lrs lrt ∷ es) p = plain_alone d n ks es p
+plain_alone d n ks (Load i uls ult lrs lrt words rows stride start len ∷ es) p = plain_alone d n ks es p
+plain_alone d n ks (Rect i ulx uly lrx lry uls ult dsdx dtdy row ∷ es) p = absurd p
 
 -- a prefix of a plan whose rectangles are near: what a refused or a cut-off plan has
-pub near_prefix : (m : ℕ) (d : Drift) (n : ℕ) (ks : List ℤ) (es fs : List Entry) → AllBy m d n ks (es ++ fs) → AllBy m d n ks es
-near_prefix m d n ks [] fs q = tt
-near_prefix m d n ks (Image fmt siz width address ∷ es) fs q = near_prefix m d n ks es fs q
-near_prefix m d n ks (Tile i fmt siz line tmem palette cms cmt masks maskt ∷ es) fs q = near_prefix m d n ks es fs q
-near_prefix m d n ks (Size i uls ult lrs lrt ∷ es) fs q = near_prefix m d n ks es fs q
-near_prefix m d n ks (Load i uls ult lrs lrt words rows stride start len ∷ es) fs q = near_prefix m d n ks es fs q
-near_prefix m d n [] (Rect i ulx uly lrx lry uls ult dsdx dtdy row ∷ es) fs q = absurd q
-near_prefix m d n (k ∷ ks) (Rect i ulx uly lrx lry uls ult dsdx dtdy row ∷ es) fs q = (q.0, near_prefix m d (n + (lry - uly) / 4) ks es fs q.1)
+pub near_prefix : (d : Drift) (n : ℕ) (ks : List ℤ) (es fs : List Entry) → AllNear d n ks (es ++ fs) → AllNear d n ks es
+near_prefix d n ks [] fs q = tt
+near_prefix d n ks (Image fmt siz width address ∷ es) fs q = near_prefix d n ks es fs q
+near_prefix d n ks (Tile i fmt siz line tmem palette cms cmt masks maskt ∷ es) fs q = near_prefix d n ks es fs q
+near_prefix d n ks (Size i uls ult lrs lrt ∷ es) fs q = near_prefix d n ks es fs q
+near_prefix d n ks (Load i uls ult lrs lrt words rows stride start len ∷ es) fs q = near_prefix d n ks es fs q
+near_prefix d n [] (Rect i ulx uly lrx lry uls ult dsdx dtdy row ∷ es) fs q = absurd q
+near_prefix d n (k ∷ ks) (Rect i ulx uly lrx lry uls ult dsdx dtdy row ∷ es) fs q = (q.0, near_prefix d (n + (lry - uly) / 4) ks es fs q.1)
 
 -- a verdict that is no 0
 abbrev pub Refuses : Verdict → Type 0
@@ -133,9 +94,9 @@ entries_more es (go fs a) = refl
 entries_more es (stop fs l v) = refl
 
 -- after an outcome with no rectangle, what is near stays near
-pub near_bind : {A B : Type 0} {P : A → Type 0} (m : ℕ) (d : Drift) (n : ℕ) (ks : List ℤ) (a : Out A) (k : A → Out B) → Quiet P a → ((x : A) → P x → AllBy m d n ks (entries_out (k x))) → AllBy m d n ks (entries_out (a >>= k))
-near_bind m d n ks (go es x) k p f = rw (entries_more es (k x)) (plain_near m d n ks es (entries_out (k x)) p.still.0 (f x p.still.1))
-near_bind m d n ks (stop es l v) k p f = plain_alone m d n ks es p.still.0
+pub near_bind : {A B : Type 0} {P : A → Type 0} (d : Drift) (n : ℕ) (ks : List ℤ) (a : Out A) (k : A → Out B) → Quiet P a → ((x : A) → P x → AllNear d n ks (entries_out (k x))) → AllNear d n ks (entries_out (a >>= k))
+near_bind d n ks (go es x) k p f = rw (entries_more es (k x)) (plain_near d n ks es (entries_out (k x)) p.still.0 (f x p.still.1))
+near_bind d n ks (stop es l v) k p f = plain_alone d n ks es p.still.0
 
 -- ---- the scaled plan's parts: no load has a rectangle
 

@@ -12,10 +12,6 @@ use Rattle.plan.specs.declared.types.Walk.{Walk}
 use Rattle.plan.specs.Scaled.{left_after, lines_of, rows_of, rect_of, after_draw, draw_of, next_pass}
 use Rattle.plan.specs.Demand.{Drift}
 
--- how far behind a line can be, besides h: 30 and, for an origin between rows, what it has below a whole row
-abbrev pub limit : Drift → ℕ
-limit d = 30 + 32 * modulo d.origin 32
-
 -- the rows from the image's top to strip k's first row, before the remainder
 abbrev pub row_at : Drift → ℤ → ℤ
 row_at d k = pos d.image_rows *ℤ k +ℤ floor_div d.origin 32 +ℤ pos d.carry +ℤ cond (le_z k d.slice) d.first_rows (pos 0)

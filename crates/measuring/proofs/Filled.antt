@@ -5,6 +5,7 @@ use Rattle.std.proofs.Math.Seq.{paste}
 use Rattle.std.proofs.lemmas.List.Edits.{length-paste}
 use Rattle.plan.specs.declared.types.Entry.{Entry}
 use Rattle.plan.specs.Demand as demand
+use Rattle.plan.specs.Demand.{Drift}
 use Rattle.planner.specs.Planner.{Planner}
 use Rattle.planner.specs.Coming.{coming}
 use Rattle.small.specs.Small.{AllSmall}
@@ -16,15 +17,15 @@ use Rattle.measuring.specs.Host.{begun_words, drift_words, Next}
 
 -- ---- words
 
-words_more : (h : ℕ) (bs : List demand.Begun) (b : demand.Begun) → drift_words h (bs ++ b ∷ []) ≡ drift_words h bs ++ begun_words h b
+words_more : (d : Drift) (bs : List demand.Begun) (b : demand.Begun) → drift_words d (bs ++ b ∷ []) ≡ drift_words d bs ++ begun_words d b
 unfolding drift_words
-words_more h [] b = refl
-words_more h (a ∷ bs) b = ap (λ (ws : List ℕ). begun_words h a ++ ws) (words_more h bs b)
+words_more d [] b = refl
+words_more d (a ∷ bs) b = ap (λ (ws : List ℕ). begun_words d a ++ ws) (words_more d bs b)
 
-words_long : (h : ℕ) (bs : List demand.Begun) → length (drift_words h bs) ≡ 5 * length bs
+words_long : (d : Drift) (bs : List demand.Begun) → length (drift_words d bs) ≡ 5 * length bs
 unfolding drift_words
-words_long h [] = refl
-words_long h (b ∷ bs) = omega (arith, words_long h bs)
+words_long d [] = refl
+words_long d (b ∷ bs) = omega (arith, words_long d bs)
 
 -- the buffer with five more words
 paste_more : (xs ws buf : List ℕ) (a : ℕ) → length ws ≡ 5 → length xs ≡ a → paste (xs ++ drop a buf) a ws 5 ≡ (xs ++ ws) ++ drop (a + 5) buf
@@ -42,7 +43,7 @@ pub record Going (r : Ruler) (es : List Entry) (buf out : List ℕ) (p : Planner
   pub count : n ≡ length given
   pub fits : 5 * length given ≤ length buf
   pub same : length out ≡ length buf
-  pub buffer : out ≡ drift_words r.h given ++ drop (5 * length given) buf
+  pub buffer : out ≡ drift_words r given ++ drop (5 * length given) buf
   pub small : AllSmall (coming p).entries
   pub at : SoundPlace r place
 
@@ -52,10 +53,10 @@ going_start r p buf place a e h =
     record { given = []; whole = ap (λ (x : Place). drifts_from r x (coming p).entries) (sym e); count = refl; fits = omega arith; same = refl; buffer = refl; small = a; at = h }
 
 module _ {r : Ruler} {es : List Entry} {buf out : List ℕ} {p : Planner} {place : Place} {n : ℕ} (g : Going r es buf out p place n) where
-  pub going_more : (b : Begun) (s : Place) (q : Planner) (out' : List ℕ) → Next r place p b s q → 5 ≤ length out - n * 5 → out' ≡ paste out (n * 5) (begun_words r.h b) 5 → Going r es buf out' q s (n + 1)
+  pub going_more : (b : Begun) (s : Place) (q : Planner) (out' : List ℕ) → Next r place p b s q → 5 ≤ length out - n * 5 → out' ≡ paste out (n * 5) (begun_words r b) 5 → Going r es buf out' q s (n + 1)
   going_more b s q out' h room e =
       let bs = g.given in
-      let ws = begun_words r.h b in
+      let ws = begun_words r b in
       let c = g.count in
       let m = g.same in
       let len : length (bs ++ b ∷ []) ≡ length bs + 1 = length-append bs (b ∷ []) in
@@ -69,10 +70,10 @@ module _ {r : Ruler} {es : List Entry} {buf out : List ℕ} {p : Planner} {place
         same = ap length e ∙ length-paste out (n * 5) ws 5 (omega arith) (omega arith) ∙ m;
         buffer =
             e
-            ∙ ap (λ (x : List ℕ). paste x (n * 5) ws 5) (g.buffer ∙ ap (λ (k : ℕ). drift_words r.h bs ++ drop k buf) at)
-            ∙ paste_more (drift_words r.h bs) ws buf (n * 5) refl (words_long r.h bs ∙ at)
-            ∙ ap (λ (x : List ℕ). x ++ drop (n * 5 + 5) buf) (sym (words_more r.h bs b))
-            ∙ ap (λ (k : ℕ). drift_words r.h (bs ++ b ∷ []) ++ drop k buf) d;
+            ∙ ap (λ (x : List ℕ). paste x (n * 5) ws 5) (g.buffer ∙ ap (λ (k : ℕ). drift_words r bs ++ drop k buf) at)
+            ∙ paste_more (drift_words r bs) ws buf (n * 5) refl (words_long r bs ∙ at)
+            ∙ ap (λ (x : List ℕ). x ++ drop (n * 5 + 5) buf) (sym (words_more r bs b))
+            ∙ ap (λ (k : ℕ). drift_words r (bs ++ b ∷ []) ++ drop k buf) d;
         small = h.rest.small;
         at = h.next;
       }

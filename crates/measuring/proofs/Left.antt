@@ -37,8 +37,8 @@ module _ (q : Request) (r : Ruler) (h : RulerIs q r) where
   unfolding measured_of
   measured_left drift out n b f e =
       let bs = ap (take (length drift / 5)) drifts_are in
-      let words : out ≡ drift_words (drift_of q).h (shown_of q drift) ++ drop (5 * length (shown_of q drift)) drift =
-      f.buffer ∙ (λ i. drift_words (h.is i).h (bs i) ++ drop (5 * length (bs i)) drift) in
+      let words : out ≡ drift_words (drift_of q) (shown_of q drift) ++ drop (5 * length (shown_of q drift)) drift =
+      f.buffer ∙ (λ i. drift_words (h.is i) (bs i) ++ drop (5 * length (bs i)) drift) in
       let count : n ≡ length (shown_of q drift) = f.count ∙ ap length bs in
       let flag : b ≡ cond (apt q && set_up q) 1 0 = e ∙ rw (h.set, apt_is) (and_true (apt q)) in
       λ i. drifted 0 (words i) (count i ∷ flag i ∷ [])

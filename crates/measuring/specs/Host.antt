@@ -5,7 +5,7 @@ use Rattle.signed.specs.Cast.{word}
 use Rattle.plan.specs.declared.types.Entry.{Entry}
 use Rattle.plan.specs.Request.{Request}
 use Rattle.plan.specs.Demand as demand
-use Rattle.plan.specs.Demand.{drift_of, behind_of, ahead_of, apt}
+use Rattle.plan.specs.Demand.{Drift, drift_of, behind_of, ahead_of, apt}
 use Rattle.planner.specs.Planner.{Planner}
 use Rattle.planner.specs.Coming.{coming}
 use Rattle.request.specs.Host.{host_request}
@@ -17,12 +17,12 @@ use Rattle.ruler.specs.declared.types.Over.{Over}
 use Rattle.ruler.specs.Drifts.{drifts_of, set_up, drifts_from, place_of, SoundPlace}
 
 -- a rectangle's words: its first line, its strip, its distance, and the limits behind and ahead
-abbrev pub begun_words : (h : ℕ) → demand.Begun → List ℕ
-begun_words h b = b.line ∷ word b.strip ∷ word b.distance ∷ word (behind_of h) ∷ word (ahead_of h b.strip) ∷ []
+abbrev pub begun_words : Drift → demand.Begun → List ℕ
+begun_words d b = b.line ∷ word b.strip ∷ word b.distance ∷ word (behind_of d) ∷ word (ahead_of d.h b.strip) ∷ []
 
-unfoldable pub drift_words : (h : ℕ) → List demand.Begun → List ℕ
-drift_words h [] = []
-drift_words h (b ∷ bs) = begun_words h b ++ drift_words h bs
+unfoldable pub drift_words : Drift → List demand.Begun → List ℕ
+drift_words d [] = []
+drift_words d (b ∷ bs) = begun_words d b ++ drift_words d bs
 
 -- the answer, and the words of drift and told as the call leaves them
 pub record Drifted : Type 0 where
@@ -40,7 +40,7 @@ shown_of q drift = take (length drift / 5) (drifts_of q)
 -- as many rectangles as there is room for; whether demand 3 is promised of them
 unfoldable pub measured_of : Request → (drift : List ℕ) → Drifted
 measured_of q drift =
-    drifted 0 (drift_words (drift_of q).h (shown_of q drift) ++ drop (5 * length (shown_of q drift)) drift)
+    drifted 0 (drift_words (drift_of q) (shown_of q drift) ++ drop (5 * length (shown_of q drift)) drift)
     (length (shown_of q drift) ∷ cond (apt q && set_up q) 1 0 ∷ [])
 
 -- that, or 1 and nothing changed where request or told has another number of words
@@ -74,4 +74,4 @@ fitting r es drift = take (length drift / 5) (drifts_from r (place_of r) es)
 
 pub record FilledIs (r : Ruler) (es : List Entry) (drift out : List ℕ) (n : ℕ) : Type 0 where
   pub count : n ≡ length (fitting r es drift)
-  pub buffer : out ≡ drift_words r.h (fitting r es drift) ++ drop (5 * length (fitting r es drift)) drift
+  pub buffer : out ≡ drift_words r (fitting r es drift) ++ drop (5 * length (fitting r es drift)) drift

@@ -24,9 +24,9 @@ use words::put;
 pub(crate) type Moved = Result<(Option<(Begun, Place)>, Planner), Over>;
 
 fn words_of(r: Ruler, b: Begun) -> [u64; 5]
-    ensures { result ≡ begun_words r.h b }
+    ensures { result ≡ begun_words r b }
 {
-    let behind = word_of(ruler::behind(r.h));
+    let behind = word_of(r.behind());
     let ahead = word_of(ruler::ahead(r.h, b.strip));
     [b.line, word_of(b.strip), word_of(b.distance), behind, ahead]
 }

@@ -1,6 +1,6 @@
 -- A record of 61 bytes with the oracle's answer and D's figures, and the test that the definitions give both. D is docs/SPECIFICATION.md, sections 12 and 13.
 -- Assumes nothing.
-use Rattle.std.specs.Prelude.{Bool, true, false, ◌&&◌, ◌||◌, List, [], ◌∷◌, ◌++◌, ℕ, zero, suc, ◌/◌, ◌%◌, eqb, length, take, drop, get_or, replicate, pos}
+use Rattle.std.specs.Prelude.{Bool, true, false, ◌&&◌, ◌||◌, List, [], ◌∷◌, ◌++◌, ℕ, zero, suc, ◌/◌, ◌%◌, eqb, length, take, drop, get_or, replicate, pos, neg_ℤ, ℤ}
 use Rattle.std.specs.Int.Signed.{le_z}
 use Rattle.object.specs.Layout.{layout, read, value_of, decode}
 use Rattle.checks.specs.Check.{verdict_number, scissor_bad, object_faults, copy_faults, object_of, checked_of}
@@ -62,6 +62,8 @@ pub data Figure : Type 0 where
   lines : ℕ → Figure
   -- "line 6 begins strip 1, 144/1,024 ahead"
   begins : (line strip ahead : ℕ) → Figure
+  -- "line 6 begins strip 1, 368/1,024 behind"
+  lags : (line strip behind : ℕ) → Figure
   -- demand 3's conditions hold, and each rectangle begins within its limits
   drifts : Figure
 
@@ -111,24 +113,30 @@ unfolding request_of_record tiles_from run_of cut_at end_of bank_of bank_after b
 ran_of bank g = run_of (plan_of (request_of_record g)) (replicate g.room 7) (record { tiles = tiles_from 8 bank })
 
 -- a rectangle begins so
-unfoldable pub begun : (line strip ahead : ℕ) → List Begun → Bool
-begun l k a [] = false
-begun l k a (b ∷ bs) =
-    (eqb l b.line && (le_z (pos k) b.strip && (le_z b.strip (pos k) && (le_z (pos a) b.distance && le_z b.distance (pos a))))) || begun l k a bs
+unfoldable pub begun : (line strip : ℕ) → (distance : ℤ) → List Begun → Bool
+begun l k x [] = false
+begun l k x (b ∷ bs) =
+    (eqb l b.line && (le_z (pos k) b.strip && (le_z b.strip (pos k) && (le_z x b.distance && le_z b.distance x)))) || begun l k x bs
+
+-- where the rectangles of a record's plan begin
+unfoldable pub begun_of : Given → List Begun
+unfolding request_of_record drift_of strips aheads
+begun_of g = let q = request_of_record g in aheads (drift_of q) 0 (strips_of (drift_of q)) (plan_of q).entries
 
 -- what D says holds of a record's plan and end
 unfoldable pub holds : Given → End → Figure → Bool
-unfolding request_of_record drift_of strips lines_in aheads apt all_near begun
+unfolding request_of_record drift_of lines_in begun_of apt all_near begun
 holds g e (answers n) = eqb (verdict_number e.verdict) n
 holds g e (entries n) = eqb e.entries n
 holds g e (rects n) = eqb e.rectangles n
 holds g e (words n) = eqb e.words n
 holds g e (lines n) = eqb (lines_in (plan_of (request_of_record g)).entries) n
-holds g e (begins l k a) = let q = request_of_record g in begun l k a (aheads (drift_of q) 0 (strips_of (drift_of q)) (plan_of q).entries)
+holds g e (begins l k a) = begun l k (pos a) (begun_of g)
+holds g e (lags l k b) = begun l k (neg_ℤ (pos b)) (begun_of g)
 holds g e drifts =
     let q = request_of_record g in
-    let bs = aheads (drift_of q) 0 (strips_of (drift_of q)) (plan_of q).entries in
-    apt q && (eqb (length bs) e.rectangles && all_near (drift_of q).h bs)
+    let bs = begun_of g in
+    apt q && (eqb (length bs) e.rectangles && all_near (drift_of q) bs)
 
 unfoldable pub all_hold : Given → End → List Figure → Bool
 unfolding holds

@@ -83,18 +83,18 @@ wholes d k = floor_div (pos d.image_rows *ℤ k +ℤ whole_rows d.origin +ℤ po
 abbrev pub ahead : Drift → (k : ℤ) → (row : ℕ) → (ult : ℤ) → (earlier j : ℕ) → ℤ
 ahead d k row ult earlier j = sampled d row ult j -ℤ exact d earlier j +ℤ pos (256 * d.image_h) *ℤ wholes d k
 
--- D "d .. is at least −(h + 30)": the limit behind
-abbrev pub behind_of : (h : ℕ) → ℤ
-behind_of h = neg_ℤ (pos (h + 30))
+-- D "d .. is at least −(h + 30) where image_y_orig is a multiple of 32 and −(h + 1,022) where it is not": the limit behind
+abbrev pub behind_of : Drift → ℤ
+behind_of d = neg_ℤ (pos (d.h + cond (eqb (modulo d.origin 32) 0) 30 1022))
 
 -- D "1,024 × d at most h × (1,024 + k)", rounded down to a whole d: the limit ahead
 abbrev pub ahead_of : (h : ℕ) → (k : ℤ) → ℤ
 ahead_of h k = floor_div (pos h *ℤ (pos 1024 +ℤ k)) 1024
 
--- D "d .. is at least −(h + 30), and 1,024 × d at most h × (1,024 + k)"
-pub record Near (h : ℕ) (k d : ℤ) : Type 0 where
-  pub behind : behind_of h ≤ℤ d
-  pub before : (pos 1024 *ℤ d) ≤ℤ (pos h *ℤ (pos 1024 +ℤ k))
+-- the two limits, of a line of strip k whose distance is x; D "1,024 × d at most h × (1,024 + k)"
+pub record Near (d : Drift) (k x : ℤ) : Type 0 where
+  pub behind : behind_of d ≤ℤ x
+  pub before : (pos 1024 *ℤ x) ≤ℤ (pos d.h *ℤ (pos 1024 +ℤ k))
 
 -- D "A rectangle has floor((lry − uly) / 4) lines": each line of each rectangle is near, with the strips' numbers and the lines of earlier rectangles
 abbrev pub AllNear : Drift → (earlier : ℕ) → List ℤ → List Entry → Type 0
@@ -105,7 +105,7 @@ AllNear d n ks (Size i uls ult lrs lrt ∷ es) = AllNear d n ks es
 AllNear d n ks (Load i uls ult lrs lrt words rows stride start len ∷ es) = AllNear d n ks es
 AllNear d n [] (Rect i ulx uly lrx lry uls ult dsdx dtdy row ∷ es) = ⊥
 AllNear d n (k ∷ ks) (Rect i ulx uly lrx lry uls ult dsdx dtdy row ∷ es) =
-    ((j : ℕ) → j < (lry - uly) / 4 → Near d.h k (ahead d k row ult n j)) × AllNear d (n + (lry - uly) / 4) ks es
+    ((j : ℕ) → j < (lry - uly) / 4 → Near d k (ahead d k row ult n j)) × AllNear d (n + (lry - uly) / 4) ks es
 
 -- the lines of a list's rectangles
 unfoldable pub lines_in : List Entry → ℕ
@@ -116,11 +116,10 @@ lines_in (Size i uls ult lrs lrt ∷ es) = lines_in es
 lines_in (Load i uls ult lrs lrt words rows stride start len ∷ es) = lines_in es
 lines_in (Rect i ulx uly lrx lry uls ult dsdx dtdy row ∷ es) = (lry - uly) / 4 + lines_in es
 
--- D "Whole rows: image_h a multiple of 4, image_y_orig of 32. The start is at or below the origin when the bracket's first two terms add to at least image_y_orig"
+-- D "Whole rows: image_h a multiple of 4. The start is at or below the origin when the bracket's first two terms add to at least image_y_orig"
 pub record Apt (q : Request) : Type 0 where
   pub scaled : q.opcode ≡ 9
   pub rows : (drift_of q).image_h % 4 ≡ 0
-  pub origin : modulo (drift_of q).origin 32 ≡ 0
   pub below : (drift_of q).origin ≤ℤ pos (drift_of q).start
 
 -- demand 3, over the list of steps' entries
@@ -146,8 +145,8 @@ aheads d n (k ∷ ks) (Rect i ulx uly lrx lry uls ult dsdx dtdy row ∷ es) =
 
 -- demand 3's conditions and limits as tests
 unfoldable pub apt : Request → Bool
-apt q = let d = drift_of q in eqb q.opcode 9 && (eqb (d.image_h % 4) 0 && (eqb (modulo d.origin 32) 0 && le_z d.origin (pos d.start)))
+apt q = let d = drift_of q in eqb q.opcode 9 && (eqb (d.image_h % 4) 0 && le_z d.origin (pos d.start))
 
-unfoldable pub all_near : ℕ → List Begun → Bool
-all_near h [] = true
-all_near h (b ∷ bs) = le_z (behind_of h) b.distance && (le_z (pos 1024 *ℤ b.distance) (pos h *ℤ (pos 1024 +ℤ b.strip)) && all_near h bs)
+unfoldable pub all_near : Drift → List Begun → Bool
+all_near d [] = true
+all_near d (b ∷ bs) = le_z (behind_of d) b.distance && (le_z (pos 1024 *ℤ b.distance) (pos d.h *ℤ (pos 1024 +ℤ b.strip)) && all_near d bs)

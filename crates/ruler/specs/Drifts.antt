@@ -3,7 +3,6 @@
 use Rattle.std.specs.Prelude.{◌≡◌, Bool, true, false, cond, not, ◌&&◌, List, [], ◌∷◌, ℕ, ◌+◌, ◌*◌, ◌-◌, ◌/◌, ◌%◌, ◌≤◌, eqb, ℤ, pos, ◌+ℤ◌, ◌-ℤ◌, Result, Ok, Err, Option, Some, None}
 use Rattle.std.specs.Int.Signed.{le_z}
 use Rattle.signed.specs.Diff.{up}
-use Rattle.signed.specs.Floor.{modulo}
 use Rattle.measures.specs.Measure.{quarters, thirty_seconds, texels, sampled_by}
 use Rattle.measures.specs.Range.{Below}
 use Rattle.object.specs.declared.types.ObjBg.{ObjBg}
@@ -77,9 +76,9 @@ first_at bg s mode address = first_of (strips_at bg s mode address) (start_of bg
 abbrev pub ruler_of : ObjBg → Scissor → (mode address : ℕ) → Ruler
 ruler_of bg s mode address = ruler_from bg (clip_of bg s) (start_of bg (clip_of bg s)) (strips_at bg s mode address) (first_at bg s mode address)
 
--- D "image_h a multiple of 4, image_y_orig of 32", "The start is at or below the origin"
+-- D "image_h a multiple of 4", "The start is at or below the origin"
 abbrev pub apt_in : Ruler → Bool
-apt_in r = eqb (r.image_h % 4) 0 && (eqb (modulo r.origin 32) 0 && le_z r.origin (pos r.start))
+apt_in r = eqb (r.image_h % 4) 0 && le_z r.origin (pos r.start)
 
 abbrev pub place_of : Ruler → Place
 place_of r = record { fuel = 65 * r.lines; k = r.slice; left = r.lines; count = up r.count; earlier = 0 }

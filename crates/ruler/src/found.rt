@@ -90,5 +90,5 @@ pub fn place_of(r: Ruler) -> Place
 pub fn apt(r: Ruler) -> bool
     ensures { result ≡ apt_in r }
 {
-    r.image_h % 4 == 0 && signed::rem_euclid(r.origin, 32) == 0 && r.origin <= r.start as i64
+    r.image_h % 4 == 0 && r.origin <= r.start as i64
 }

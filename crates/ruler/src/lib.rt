@@ -7,5 +7,5 @@ mod strip;
 mod types;
 
 pub use found::{apt, place_of, ruler_of};
-pub use measure::{ahead, behind, taken};
+pub use measure::{ahead, taken};
 pub use types::{Begun, Over, Place, Ruler, Taken};

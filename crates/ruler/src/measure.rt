@@ -26,15 +26,7 @@ fn sampled(row: u64, ult: i64) -> i64
     (1024 * row) as i64 + 32 * ult
 }
 
-// The limit behind. This and the limit ahead are promised at any scale: as methods of a ruler they would ask for one.
-pub fn behind(h: u64) -> i64
-    requires { h ≤ 65535 }
-    ensures { result ≡ behind_of h }
-{
-    -((h + 30) as i64)
-}
-
-// The limit ahead of a strip.
+// The limit ahead of a strip. It is promised at any scale: as a method of a ruler it would ask for one.
 pub fn ahead(h: u64, k: i64) -> i64
     requires { (h ≤ 65535) × Within 46 k }
     ensures { result ≡ ahead_of h k }
@@ -42,8 +34,20 @@ pub fn ahead(h: u64, k: i64) -> i64
     signed::floor_div(h as i64 * (1024 + k), 1024)
 }
 
-// What a ruler measures of a strip.
+// What a ruler measures.
 impl Ruler {
+    // The limit behind. A whole row is told by the remainder, since an origin may be negative.
+    pub fn behind(self) -> i64
+        ensures { result ≡ behind_of self }
+    {
+        let part = if signed::rem_euclid(self.origin, 32) == 0 {
+            30
+        } else {
+            1022
+        };
+        -((self.h + part) as i64)
+    }
+
     // The image row at which a strip starts, whole images counted.
     fn top_row(self, k: i64) -> i64
         requires { StripOf self k }

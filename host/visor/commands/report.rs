@@ -28,15 +28,15 @@ of 61 bytes one after another. Files that are none of these are named, and the o
 The exit status is 1 where a request was refused, and 2 where a file could not be read.",
     example: "report cases.records",
     shows: "\
-20 requests: 13 planned, 7 refused
-       13 with verdict 0: The plan is complete.
+21 requests: 14 planned, 7 refused
+       14 with verdict 0: The plan is complete.
         2 with verdict 4: The object has a width or height of 0, a size above 3, a format above 4 or an unknown load.
         1 with verdict 5: The copy object has a load other than 0xfff4, an image or a tmem_h under 4 units, a tmem_size_w of 0, tile memory fields whose product is another, or a flip above 1.
         2 with verdict 7: A copy strip does not fit texture memory.
         1 with verdict 8: A part of a scaled strip has no rows, no width or no place in texture memory.
         1 with verdict 9: An image address, or the end of a load, leaves the 64-bit address space.
-worst drift: +896/1,024 of a row in cases.records#7, with limits of -1030 and +1033; limits are proved for 6 of 6 scaled plans
-seams that show: 39 in 1 of the requests, most in cases.records#7 (39)
+worst drift: +896/1,024 of a row in cases.records#7, with limits of -1030 and +1033; limits are proved for 7 of 7 scaled plans
+seams that show: 78 in 2 of the requests, most in cases.records#7 (39)
 largest load: 512 of 512 words in cases.records#3
 lines and columns of the frame not drawn: in 5 of those planned, most in cases.records#5 (1 and 1)",
     run,

@@ -170,8 +170,13 @@ fn drift(study: &Study, said: &mut Vec<Finding>) {
     };
     let limits = match study.proved {
         true => format!(
-            "the proved limits are {} and {:+}.",
-            last.behind, last.ahead
+            "the proved limits{} are {} and {:+}.",
+            match origin_between_rows(study) {
+                true => ", for an origin between two rows,",
+                false => "",
+            },
+            last.behind,
+            last.ahead
         ),
         false => format!(
             "limits of {} and {:+} are not proved here, as {}.",
@@ -201,18 +206,17 @@ fn drift(study: &Study, said: &mut Vec<Finding>) {
     }
 }
 
-/// Which of the three conditions of 11.1 is not met, the first of them.
+/// Which of the two conditions of 11.1 is not met, the first of them.
 fn unproved(study: &Study) -> &'static str {
-    match study
-        .object
-        .map(|object| (object.image_h.0 % 4, object.kind))
-    {
-        Some((0, Kind::Scaled { image_y_orig, .. })) if image_y_orig.0 % 32 != 0 => {
-            "the origin lies between two rows"
-        }
-        Some((0, _)) => "the start lies above the origin",
+    match study.object.map(|object| object.image_h.0 % 4) {
+        Some(0) => "the start lies above the origin",
         _ => "the image's height is no whole number of rows",
     }
+}
+
+fn origin_between_rows(study: &Study) -> bool {
+    let kind = study.object.map(|object| object.kind);
+    matches!(kind, Some(Kind::Scaled { image_y_orig, .. }) if image_y_orig.0 % 32 != 0)
 }
 
 fn seams(study: &Study, said: &mut Vec<Finding>) {
