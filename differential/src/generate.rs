@@ -399,8 +399,8 @@ fn scaled(random: &mut Random, thin: u64) -> Record {
     }
 }
 
-/// A scaled case with image_h a multiple of 4 and image_y_orig not above image_y, a multiple of 32 in
-/// every other one.
+/// A scaled case with image_h a multiple of 4 and image_y_orig not above image_y, in about half of
+/// them a multiple of 32.
 fn whole(random: &mut Random) -> Record {
     let mut record = scaled(random, 10);
     let half = |at: usize| {

@@ -303,8 +303,9 @@ uint64_t visor_step(uint64_t *state, size_t state_words, uint64_t *bank, size_t 
 /* How far the lines of a scaled plan are from their exact place in the image: drift has VISOR_DRIFT_WORDS words for each of the
    plan's rectangles, in order, as many as there is room for, and told says how many. visor_count says how many rectangles a plan
    has. The words beyond are as they were. A plan that is copied does not drift, and has none.
-   The limit behind is one line step, which is the object's scale_h, and 30 more; where image_y_orig is no multiple of 32, so
-   that the origin lies between two rows, 1,022 more. The limit ahead is one line step, and a 1,024th of one for each strip.
+   A line step is the object's scale_h, or 1 where that is 0. The limit behind is one line step and 30 more, or 1,022 more where
+   image_y_orig is no multiple of 32 and so lies between two rows. The limit ahead is one line step, and a 1,024th of one more
+   for each strip from the origin.
    Lengths: VISOR_REQUEST_WORDS, VISOR_TOLD_WORDS; object and drift may have any. */
 uint64_t visor_drift(const uint8_t *object, size_t object_bytes, const uint64_t *request, size_t request_words, uint64_t *drift,
                      size_t drift_words, uint64_t *told, size_t told_words);

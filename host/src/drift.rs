@@ -15,9 +15,10 @@ pub struct Drift {
     pub strip: i64,
     /// How far ahead of its exact place each line samples the image.
     pub distance: i64,
-    /// The least distance that the limits allow.
+    /// The least distance that the limits allow: one line step and 30 behind, or one line step and
+    /// 1,022 where the origin lies between two rows. A line step is the object's `scale_h`.
     pub behind: i64,
-    /// The greatest.
+    /// The greatest: one line step ahead, and a 1,024th of one more for each strip from the origin.
     pub ahead: i64,
 }
 

@@ -36,8 +36,5 @@ behind_is d k x n = let b = by_rest d.h (modulo d.origin 32) x n.behind in (λ e
 pub behind_all : (q : Request) → Apt q → EachLine Behind (drift_of q) 0 (strips_of (drift_of q)) (plan_of q).entries
 behind_all q a = each Behind behind_is (drift_of q) 0 (strips_of (drift_of q)) (plan_of q).entries (demand3 q a)
 
-before_is : (d : Drift) (k x : ℤ) → Near d k x → Before d k x
-before_is d k x n = n.before
-
 pub before_all : (q : Request) → Apt q → EachLine Before (drift_of q) 0 (strips_of (drift_of q)) (plan_of q).entries
-before_all q a = each Before before_is (drift_of q) 0 (strips_of (drift_of q)) (plan_of q).entries (demand3 q a)
+before_all q a = each Before (λ d k x n. n.before) (drift_of q) 0 (strips_of (drift_of q)) (plan_of q).entries (demand3 q a)
