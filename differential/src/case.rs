@@ -36,10 +36,7 @@ impl Case {
         let wide = widened(random, &mut record);
         let mut case = Case {
             object,
-            bank_seed: Some(random.next()),
-            wide_bank: random.once_in(16),
-            draw: random.next(),
-            ..Case::fixed(record, OBJECT_BYTES)
+            ..Case::drawn(random, record)
         };
         for (place, word) in wide {
             case.request[place] = word;
@@ -55,6 +52,16 @@ impl Case {
         case.request[6] = record.address;
         case.draw = random.next();
         Some(case)
+    }
+
+    /// A record as it is, with a random bank and random buffers.
+    pub fn drawn(random: &mut Random, record: Record) -> Case {
+        Case {
+            bank_seed: Some(random.next()),
+            wide_bank: random.once_in(16),
+            draw: random.next(),
+            ..Case::fixed(record, OBJECT_BYTES)
+        }
     }
 
     pub fn fixed(record: Record, object_bytes: usize) -> Case {

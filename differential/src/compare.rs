@@ -10,7 +10,8 @@
 //! words and, now and then, into one of any length and one of no words. Then it is stepped to its
 //! end and beyond, with the planner of the record before it stepped in between; and its rectangles
 //! are measured into buffers of three lengths. One in four of those with a load comes again, with
-//! its image so near the last address that one of its loads ends there.
+//! its image so near the last address that one of its loads ends there. Beside one in sixteen a copy
+//! object is written from a random picture, and its plans are compared as those of the records.
 
 #![allow(dead_code, unused_imports, unexpected_cfgs)]
 
@@ -26,6 +27,7 @@ mod hle;
 mod inspect;
 mod machine;
 mod measured;
+mod pictures;
 mod plan;
 mod proved;
 mod random;
@@ -55,7 +57,8 @@ use std::time::Instant;
 use stepped::Planned;
 
 const BLOCK: u64 = 1_000;
-/// So many records show every place where a load is refused for its span.
+/// So many records show every place where a load is refused for its span, and all that is counted
+/// of pictures.
 const ALL_PLACES: u64 = 200_000;
 const MODES: [(&str, Mode); 8] = [
     ("mixed", Mode::Mixed),
@@ -96,6 +99,7 @@ struct Tally {
     measured: u64,
     apt: [u64; 2],
     nearest: [u64; 2],
+    pictures: pictures::Counts,
 }
 
 fn mode(record: &Record) -> usize {
@@ -134,7 +138,9 @@ impl Tally {
             self.apt[kind] += other.apt[kind];
             self.nearest[kind] += other.nearest[kind];
         }
-        for (mine, theirs) in self.spans.iter_mut().zip(other.spans) {
+        let mine = self.spans.iter_mut().chain(&mut self.pictures);
+        let theirs = other.spans.iter().chain(&other.pictures);
+        for (mine, theirs) in mine.zip(theirs) {
             *mine += theirs;
         }
         let mine = self.verdicts.iter_mut().chain(&mut self.counts);
@@ -177,6 +183,10 @@ impl Tally {
                  are within 1/1,024 of the limit behind",
                 self.apt[kind], self.nearest[kind]
             );
+        }
+        println!("copy objects of pictures:");
+        for (name, number) in pictures::COUNTED.iter().zip(self.pictures) {
+            println!("{number:>12}  {name}");
         }
     }
 }
@@ -567,10 +577,19 @@ fn block_seed(seed: u64, block: u64) -> u64 {
 /// One block of records; the first difference, with the record's number.
 fn compare_block(seed: u64, block: u64, count: u64, tally: &mut Tally) -> Option<(u64, String)> {
     let mut random = Random(block_seed(seed, block));
+    // Apart from the records' numbers, so that these are the same with and without pictures.
+    let mut pictured = Random(block_seed(!seed, block));
     let mode = MODES[(block % MODES.len() as u64) as usize].1;
     let mut buffers = Buffers::new();
     let mut beside = Planned::worked();
     for n in 0..count {
+        if n % pictures::EVERY == 0 {
+            let counts = &mut tally.pictures;
+            let tried = pictures::tried(&mut pictured, &beside, &mut buffers, counts);
+            if let Err(text) = tried {
+                return Some((block * BLOCK + n, text));
+            }
+        }
         let mut next = Some(Case::random(&mut random, mode));
         let mut first = true;
         while let Some(case) = next.take() {
@@ -618,12 +637,16 @@ fn compare_all(records: u64, seed: u64, threads: usize) -> (Tally, Option<(u64, 
     shared.into_inner().unwrap()
 }
 
-/// Places of a load that no record of so many showed refused for its span.
+/// What so many records should have shown and did not.
 fn unmet(tally: &Tally, records: u64) -> Option<String> {
-    let unmet = spans::PLACES.iter().zip(tally.spans);
-    let unmet: String = unmet
-        .filter(|&(_, plans)| plans == 0)
-        .map(|(name, _)| format!("no load was refused for its span here: {name}\n"))
+    let spans = spans::PLACES.iter().zip(tally.spans);
+    let spans = spans.map(|counted| ("no load was refused for its span here", counted));
+    let pictures = pictures::COUNTED.iter().zip(tally.pictures);
+    let pictures = pictures.map(|counted| ("no object of a picture", counted));
+    let unmet: String = spans
+        .chain(pictures)
+        .filter(|&(_, (_, number))| number == 0)
+        .map(|(what, (name, _))| format!("{what}: {name}\n"))
         .collect();
     (records >= ALL_PLACES && !unmet.is_empty()).then_some(unmet)
 }

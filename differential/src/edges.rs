@@ -134,7 +134,18 @@ fn copies() -> Vec<Edge> {
                 (o.image_y, r.address) = (64, 40u64.wrapping_neg())
             }),
         ),
+        (
+            "one row more than fit a picture of 16 columns, and 128 rows: finished",
+            copy(64, 512, 516, row_more),
+        ),
+        ("the same of 129 rows: 7", copy(64, 516, 516, row_more)),
     ]
+}
+
+/// The product of rows of four words, and a scissor that clips nothing.
+fn row_more(object: &mut Object, record: &mut Record) {
+    object.tail = [0, 516, 4 * 516, 0, 4, 0];
+    record.scissor = [0, 0, 1023, 1023];
 }
 
 fn scaled_ones() -> Vec<Edge> {

@@ -91,7 +91,7 @@ fn frame_start(random: &mut Random, edge: u16, extent: u16) -> i16 {
     start.clamp(-32768, 32767) as i16
 }
 
-fn scissor(random: &mut Random) -> [u16; 4] {
+pub fn scissor(random: &mut Random) -> [u16; 4] {
     let mut edges = match random.below(32) {
         0..=11 => [0, 0, 320, 240],
         12..=18 => [0, 0, 1023, 1023],
@@ -206,11 +206,8 @@ fn spoil(random: &mut Random, object: &mut Object) {
     }
 }
 
-fn copied(random: &mut Random) -> Record {
-    let mut object = common(random);
-    let scissor = scissor(random);
-    object.image_w = extent(random);
-    object.image_h = extent(random);
+/// The frame's size of a copy object, and where its image starts.
+fn frame_and_start(random: &mut Random, object: &mut Object) {
     let frame = |random: &mut Random, image: u16| match random.below(8) {
         0..=2 => image,
         3 => image.saturating_add(random.below(64) as u16),
@@ -223,6 +220,45 @@ fn copied(random: &mut Random) -> Record {
     object.frame_h = frame(random, object.image_h);
     object.image_x = image_position(random, object.image_w);
     object.image_y = image_position(random, object.image_h);
+}
+
+/// The record of a copy object whose frame is put on the screen here, and cut down if it is of very
+/// many strips.
+fn placed(random: &mut Random, mut object: Object, scissor: [u16; 4]) -> Record {
+    object.frame_x = frame_start(random, scissor[0], object.frame_w);
+    object.frame_y = frame_start(random, scissor[1], object.frame_h);
+    let record = unplaced(random, &object, scissor);
+    limit_rectangles(random, record)
+}
+
+/// The record of a copy object as it is.
+pub fn unplaced(random: &mut Random, object: &Object, scissor: [u16; 4]) -> Record {
+    Record {
+        object: object.to_bytes(),
+        scissor,
+        render_mode: render_mode(random),
+        opcode: opcode(random, COPY),
+        address: address(random, object),
+    }
+}
+
+/// A copy object with another frame and start, flipped or not, and now and then a frame of nothing.
+pub fn chosen_later(random: &mut Random, mut object: Object) -> Record {
+    let scissor = scissor(random);
+    frame_and_start(random, &mut object);
+    if random.once_in(100) {
+        object.frame_w = 0;
+    }
+    object.flip = random.below(2) as u16;
+    placed(random, object, scissor)
+}
+
+fn copied(random: &mut Random) -> Record {
+    let mut object = common(random);
+    let scissor = scissor(random);
+    object.image_w = extent(random);
+    object.image_h = extent(random);
+    frame_and_start(random, &mut object);
     spoil(random, &mut object);
 
     // The line of a strip of the full width, which decides how many rows fit.
@@ -267,16 +303,7 @@ fn copied(random: &mut Random) -> Record {
         tmem_size_w,
         (product >> 16) as u16,
     ];
-    object.frame_x = frame_start(random, scissor[0], object.frame_w);
-    object.frame_y = frame_start(random, scissor[1], object.frame_h);
-    let record = Record {
-        object: object.to_bytes(),
-        scissor,
-        render_mode: render_mode(random),
-        opcode: opcode(random, COPY),
-        address: address(random, &object),
-    };
-    limit_rectangles(random, record)
+    placed(random, object, scissor)
 }
 
 fn scale(random: &mut Random) -> u16 {

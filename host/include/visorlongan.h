@@ -11,7 +11,7 @@
    else touches them during the call. Any lengths and any values are fine: a call always ends, reads and writes inside the
    lengths that it is given, allocates nothing, and keeps nothing between calls, so threads may call at once.
    visor_run, visor_count, visor_apply, visor_start, visor_step and visor_drift answer 0, or 1 where a length is not the one named
-   below; then they have changed nothing.
+   below; then they have changed nothing. visor_write_copy answers 0, or 2, 4 or 11 (visor_written); then it has changed nothing.
 
    NUMBERS. A word is a uint64_t. A signed number is stored modulo 2^64: (int64_t)word gives it back. Units: a *quarter* is a
    quarter of a texel or of a pixel (10.2), a *thirty-second* is one of a texel (10.5), a *scale* has 1,024 as 1 (5.10). */
@@ -28,9 +28,9 @@ extern "C" {
 /* ---- The version: of this header, and of the archive that is linked. They belong together if VISOR_VERSION == visor_version(). */
 
 #define VISOR_VERSION_MAJOR 0
-#define VISOR_VERSION_MINOR 6
+#define VISOR_VERSION_MINOR 7
 #define VISOR_VERSION_PATCH 0
-#define VISOR_VERSION_TEXT "0.6.0"
+#define VISOR_VERSION_TEXT "0.7.0"
 #define VISOR_VERSION (VISOR_VERSION_MAJOR * 65536 + VISOR_VERSION_MINOR * 256 + VISOR_VERSION_PATCH)
 
 uint64_t visor_version(void);
@@ -246,6 +246,32 @@ enum visor_told {
     VISOR_TOLD_PROVED = 1      /* 1 where it is proved that each distance lies within its limits (11.1), else 0 */
 };
 
+/* ---- A copy object made from a picture (15): what visor_write_copy answers. */
+
+/* 2, 4 and 11: nothing is written. */
+enum visor_written {
+    VISOR_WRITTEN_DONE = 0,
+    VISOR_WRITTEN_SHORT = 2,
+    VISOR_WRITTEN_OBJECT = 4,
+    VISOR_WRITTEN_PICTURE = 11
+};
+
+/* What an answer of the writer says, as a sentence in English; of a number that is no answer, that it is none. */
+static inline const char *visor_written_text(uint64_t number) {
+    switch (number) {
+    case VISOR_WRITTEN_DONE:
+        return "The object is written.";
+    case VISOR_WRITTEN_SHORT:
+        return "The buffer has fewer than 40 bytes.";
+    case VISOR_WRITTEN_OBJECT:
+        return "The object would have a size above 3 or a format above 4.";
+    case VISOR_WRITTEN_PICTURE:
+        return "The picture has a width or height of 0 or above 16,383 texels, or a row that texture memory does not hold.";
+    default:
+        return "This number is no answer of the writer.";
+    }
+}
+
 /* ---- The functions. */
 
 /* A whole run: plans the request. The entries stand in plan from its first word on, VISOR_ENTRY_WORDS each; end has the four
@@ -309,6 +335,23 @@ uint64_t visor_step(uint64_t *state, size_t state_words, uint64_t *bank, size_t 
    Lengths: VISOR_REQUEST_WORDS, VISOR_TOLD_WORDS; object and drift may have any. */
 uint64_t visor_drift(const uint8_t *object, size_t object_bytes, const uint64_t *request, size_t request_words, uint64_t *drift,
                      size_t drift_words, uint64_t *told, size_t told_words);
+
+/* A copy object made from a picture (15.1): the first VISOR_COPY_BYTES bytes of out become an object that shows all of it, and the
+   bytes beyond stay. width and height are texels; fmt and siz are numbers as in VISOR_IMAGE_FMT and VISOR_IMAGE_SIZ; pointer stands
+   in bytes 16 to 19, and may be any. The frame is as large as the picture and lies at 0, the load is 0xfff4, tmem_size_w is the
+   words of one row of the picture in texture memory, tmem_h is 4 times the rows that fit there at once, tmem_load_sh and tmem_size
+   are their product, and all other fields are 0 (15.2).
+
+   REFUSALS, in this order. VISOR_WRITTEN_SHORT: out has fewer than VISOR_COPY_BYTES bytes. VISOR_WRITTEN_OBJECT: siz is above 3 or
+   fmt is above 4. VISOR_WRITTEN_PICTURE: width or height is 0 or above 16,383, or one row needs more words than texture memory
+   has for it, 256 where fmt is 2 (CI) or siz is 3, else 512. So the widest picture of siz 0 to 3 has 8,192, 4,096, 2,048 and 1,024
+   texels, and with fmt 2 it has 4,096, 2,048, 1,024 and 1,024.
+
+   AFTERWARDS a host may set frame_x, frame_y, frame_w, frame_h, image_x and image_y to any numbers and image_flip to 0 or 1, and
+   plan under any scissor: no such plan ends with VISOR_VERDICT_TOO_BIG (15.3).
+   Lengths: out may have any. */
+uint64_t visor_write_copy(uint64_t width, uint64_t height, uint64_t fmt, uint64_t siz, uint32_t pointer, uint8_t *out,
+                          size_t out_bytes);
 
 #ifdef __cplusplus
 }

@@ -5,6 +5,9 @@ use crate::library;
 pub use crate::library::{
     version, BANK_WORDS, DRIFT_WORDS, END_WORDS, REQUEST_WORDS, STATE_WORDS, STEP_WORDS, TOLD_WORDS,
 };
+use crate::request::Mode;
+
+const COPY_BYTES: usize = Mode::Copy.object_bytes();
 
 pub fn run(
     object: &[u8],
@@ -58,6 +61,21 @@ pub fn drift(
     let status = library::drift(object, request, drift, &mut told);
     debug_assert_eq!(status, 0, "the library refused lengths that it defines");
     told
+}
+
+/// The bytes of an object, or the number of the refusal.
+pub fn write_copy(
+    width: u64,
+    height: u64,
+    fmt: u64,
+    siz: u64,
+    pointer: u32,
+) -> Result<[u8; COPY_BYTES], u64> {
+    let mut out = [0; COPY_BYTES];
+    match library::write_copy(width, height, fmt, siz, pointer, &mut out) {
+        0 => Ok(out),
+        refusal => Err(refusal),
+    }
 }
 
 #[cfg(test)]

@@ -81,6 +81,12 @@
 //! version of the library, so that they are not for keeping in a file: a [`Planner`] does not hand
 //! them out.
 //!
+//! # From a picture
+//!
+//! [`copy_object`] makes the copy object of a picture from its width, height, format and size, so
+//! that nobody has to work out the fields of texture memory. Frame, start and flip may be changed
+//! afterwards.
+//!
 //! # Without an allocator
 //!
 //! The crate needs no `std`. [`Buffer`], which owns its memory, is behind the feature `alloc`, which
@@ -105,6 +111,7 @@ mod length;
 mod library;
 mod measure;
 mod object;
+mod picture;
 mod plan;
 mod planner;
 mod request;
@@ -118,6 +125,7 @@ pub use entry::{Entry, Image, Load, NoEntry, Pixels, Rect, SetTile, Size, ENTRY_
 pub use length::WrongLength;
 pub use measure::{Quarters, Scale, ThirtySeconds};
 pub use object::{Kind, Object};
+pub use picture::{copy_object, NoObject};
 pub use plan::{count, run, Entries, Plan, Steps};
 pub use planner::Planner;
 pub use request::{Mode, Record, Request, Scissor, BG_1CYC, BG_COPY};

@@ -57,6 +57,15 @@ extern "C" {
         told: *mut u64,
         told_words: usize,
     ) -> u64;
+    fn visor_write_copy(
+        width: u64,
+        height: u64,
+        fmt: u64,
+        siz: u64,
+        pointer: u32,
+        out: *mut u8,
+        out_bytes: usize,
+    ) -> u64;
     fn visor_version() -> u64;
 }
 
@@ -159,6 +168,30 @@ pub fn drift(object: &[u8], request: &[u64], drift: &mut [u64], told: &mut [u64]
             drift.len(),
             told.as_mut_ptr(),
             told.len(),
+        )
+    }
+}
+
+/// A copy object of a picture, in the first 40 bytes of `out`: 0, or the number of the refusal, 2, 4
+/// or 11, which changes nothing.
+pub fn write_copy(
+    width: u64,
+    height: u64,
+    fmt: u64,
+    siz: u64,
+    pointer: u32,
+    out: &mut [u8],
+) -> u64 {
+    // SAFETY: as for `run`.
+    unsafe {
+        visor_write_copy(
+            width,
+            height,
+            fmt,
+            siz,
+            pointer,
+            out.as_mut_ptr(),
+            out.len(),
         )
     }
 }

@@ -68,7 +68,7 @@ pub enum Kind {
         tmem_load_sh: u16,
         /// Nothing reads it.
         tmem_load_th: u16,
-        /// The words of an image row, times 2.
+        /// The words of an image row, or those times 2; plans use it in that product alone.
         tmem_size_w: u16,
         /// The high half of `tmem_h` × `tmem_size_w`.
         tmem_size: u16,

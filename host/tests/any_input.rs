@@ -5,9 +5,9 @@ mod random;
 
 use random::Random;
 use visorlongan::{
-    count, drift, run, version, Bank, Buffer, Drift, Entry, Kind, Mode, Object, Pixels, Plan,
-    Planner, Quarters, Record, Refusal, Request, Scale, ThirtySeconds, Tile, Verdict, WrongLength,
-    ENTRY_WORDS,
+    copy_object, count, drift, run, version, Bank, Buffer, Drift, Entry, Kind, Mode, NoObject,
+    Object, Pixels, Plan, Planner, Quarters, Record, Refusal, Request, Scale, Scissor,
+    ThirtySeconds, Tile, Verdict, WrongLength, ENTRY_WORDS,
 };
 
 const MODES: [Mode; 2] = [Mode::Copy, Mode::Scaled];
@@ -291,4 +291,109 @@ fn object_fields() {
         common_fields(&bytes);
         own_fields(&bytes);
     }
+}
+
+/// The words of texture memory for one row of a picture, and for all rows at once.
+fn row_and_capacity(width: u64, format: u64, size: u64) -> (u64, u64) {
+    let halves = if size == 3 { 32 } else { 16 };
+    let capacity = if format == 2 || size == 3 { 256 } else { 512 };
+    ((width << size).div_ceil(halves), capacity)
+}
+
+/// Why a picture has no object, by the rules.
+fn no_object([width, height, format, size]: [u64; 4]) -> Option<NoObject> {
+    let lengths = 1..=16_383;
+    if size > 3 || format > 4 {
+        return Some(NoObject::Texels);
+    }
+    if !lengths.contains(&width) || !lengths.contains(&height) {
+        return Some(NoObject::Picture);
+    }
+    let (row, capacity) = row_and_capacity(width, format, size);
+    (row > capacity).then_some(NoObject::Picture)
+}
+
+/// Width, height, format and size, of any length in bits, at the limits and far beyond.
+fn picture(r: &mut Random) -> [u64; 4] {
+    let limits = [0, 1, 1_024, 1_025, 2_048, 4_097, 8_192, 16_383, 16_384];
+    let mut length = || match r.next() % 8 {
+        0 => limits[r.next() as usize % limits.len()],
+        1 => r.next() >> r.from(0, 63),
+        _ => r.next() >> r.from(50, 62),
+    };
+    let (width, height) = (length(), length());
+    let mut number = |high| match r.once_in(20) {
+        true => r.next() >> r.from(0, 63),
+        false => r.from(0, high) as u64,
+    };
+    [width, height, number(5), number(3)]
+}
+
+/// Another frame and another start, and a flip of 0 or 1.
+fn choose_anew(object: &mut [u8; 40], r: &mut Random) {
+    for at in [0, 4, 6, 8, 12, 14] {
+        let number = (r.next() as u16) >> r.from(0, 12);
+        let number = if r.once_in(4) { !number } else { number };
+        object[at..at + 2].copy_from_slice(&number.to_be_bytes());
+    }
+    object[27] = r.from(0, 1) as u8;
+}
+
+/// Any numbers of a picture are answered by the rules; and no later choice of frame, start, flip and
+/// scissor makes a strip of an object that is too big.
+#[test]
+fn pictures_of_every_kind() {
+    let mut r = Random(8);
+    let (mut finished, mut drawn, mut refused) = (0, 0, 0);
+    for _ in 0..100_000 {
+        let numbers = picture(&mut r);
+        let [width, height, format, size] = numbers;
+        let made = copy_object(width, height, format, size, r.next() as u32);
+        assert_eq!(made.err(), no_object(numbers), "{numbers:?}");
+        let Ok(mut object) = made else {
+            refused += 1;
+            continue;
+        };
+        for _ in 0..4 {
+            choose_anew(&mut object, &mut r);
+            let mut edge = |low, high| r.from(low, high) as i32;
+            let scissor = Scissor::new(edge(0, 90), edge(0, 90), edge(80, 1_023), edge(80, 1_023));
+            let end = count(&Request::copy(&object, scissor, r.next() >> r.from(0, 63)));
+            assert_ne!(end.verdict, Verdict::TooBig, "{object:?} {scissor:?}");
+            finished += u32::from(end.verdict == Verdict::Finished);
+            drawn += u32::from(end.rectangles > 0);
+        }
+    }
+    println!("{finished} finished, {drawn} drawn, {refused} refused");
+    assert!(finished > 10_000 && drawn > 10_000 && refused > 10_000);
+}
+
+/// Strips are as high as they can be: one row more is too big.
+#[test]
+fn one_row_more_is_too_big() {
+    let mut r = Random(9);
+    let mut met = 0;
+    for _ in 0..100_000 {
+        let [width, height] = [(); 2].map(|()| r.from(1, 1_023) as u64);
+        let [format, size] = [4, 3].map(|high| r.from(0, high) as u64);
+        let (row, capacity) = row_and_capacity(width, format, size);
+        let rows = capacity / row;
+        if height <= rows {
+            continue;
+        }
+        let mut object = copy_object(width, height, format, size, 0).expect("an object");
+        let screen = Scissor::new(0, 0, 1_023, 1_023);
+        let end = count(&Request::copy(&object, screen, 0));
+        assert_eq!(end.verdict, Verdict::Finished);
+        assert_eq!(end.rectangles, height.div_ceil(rows));
+        let taller = 4 * (rows + 1);
+        let product = taller * row;
+        for (at, field) in [(30, taller), (32, product), (38, product >> 16)] {
+            object[at..at + 2].copy_from_slice(&(field as u16).to_be_bytes());
+        }
+        let end = count(&Request::copy(&object, screen, 0));
+        assert_eq!((end.verdict, end.entries), (Verdict::TooBig, 1));
+        met += 1;
+    }
+    assert!(met > 10_000, "{met}");
 }

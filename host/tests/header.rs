@@ -3,7 +3,7 @@
 //! compiled is not tested.
 
 use std::process::Command;
-use visorlongan::Verdict;
+use visorlongan::{NoObject, Verdict};
 
 const PROGRAM: &str = r#"
 #include "visorlongan.h"
@@ -107,6 +107,28 @@ static void drifted(uint64_t *request) {
     printf("\n");
 }
 
+/* An object of 320 by 240 texels of 16 bits in a buffer of one byte more, and its plan; then refusals in their order, none of which writes. */
+static void written(uint64_t *request) {
+    uint8_t made[VISOR_COPY_BYTES + 1];
+    int kept = 0;
+    for (int i = 0; i <= VISOR_COPY_BYTES; i++) made[i] = 77;
+    printf("%d", (int)visor_write_copy(320, 240, 0, 2, 0x06000000, made, sizeof made));
+    printf(" %d %d %d %d", made[2], made[16], made[31], made[VISOR_COPY_BYTES]);
+    request[VISOR_REQUEST_OPCODE] = VISOR_OPCODE_COPY;
+    printf(" %d", (int)visor_count(made, VISOR_COPY_BYTES, request, VISOR_REQUEST_WORDS, end, VISOR_END_WORDS));
+    for (int i = 0; i < VISOR_END_WORDS; i++) printf(" %d", (int)end[i]);
+    for (int i = 0; i <= VISOR_COPY_BYTES; i++) made[i] = 77;
+    printf("\n%d", (int)visor_write_copy(320, 240, 0, 2, 0, NULL, 0));
+    printf(" %d", (int)visor_write_copy(0, 240, 0, 4, 0, made, VISOR_COPY_BYTES - 1));
+    printf(" %d", (int)visor_write_copy(0, 240, 0, 4, 0, made, VISOR_COPY_BYTES));
+    printf(" %d", (int)visor_write_copy(320, 240, 5, 2, 0, made, VISOR_COPY_BYTES));
+    printf(" %d", (int)visor_write_copy(0, 240, 0, 2, 0, made, VISOR_COPY_BYTES));
+    printf(" %d", (int)visor_write_copy(2049, 240, 0, 2, 0, made, VISOR_COPY_BYTES));
+    printf(" %d", (int)visor_write_copy(UINT64_MAX, UINT64_MAX, 4, 0, UINT32_MAX, made, sizeof made));
+    for (int i = 0; i <= VISOR_COPY_BYTES; i++) kept += made[i] == 77;
+    printf(" %d\n", kept);
+}
+
 int main(void) {
     uint8_t object[VISOR_COPY_BYTES] = {0};
     object[3] = 64; object[7] = 64; object[11] = 8; object[15] = 8;
@@ -121,7 +143,9 @@ int main(void) {
     applied();
     stepped(object, request);
     drifted(request);
+    written(request);
     for (uint64_t verdict = 0; verdict <= VISOR_VERDICT_FULL + 1; verdict++) printf("%s\n", visor_verdict_text(verdict));
+    for (uint64_t number = 0; number <= VISOR_WRITTEN_PICTURE + 1; number++) printf("%s\n", visor_written_text(number));
     return 0;
 }
 "#;
@@ -139,9 +163,18 @@ fn expected() -> String {
         "0 10 20 20 30 40 50 90 90 1 1 0 6 1 8",
         "0 40 1 6 1 144 -1030 1000 0 2 0 0 1 1",
         "0 40 1 6 1 -368 -2022 1000",
+        "0 5 6 24 77 0 0 201 40 480",
+        "2 2 4 4 11 11 11 41",
     ];
     lines.extend(Verdict::ALL.iter().map(|verdict| verdict.sentence()));
     lines.push("This number is no verdict.");
+    lines.extend((0..=12).map(|number| match number {
+        0 => "The object is written.",
+        2 => "The buffer has fewer than 40 bytes.",
+        4 => NoObject::Texels.sentence(),
+        11 => NoObject::Picture.sentence(),
+        _ => "This number is no answer of the writer.",
+    }));
     lines.join("\n") + "\n"
 }
 

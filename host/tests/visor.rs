@@ -191,6 +191,26 @@ fn differences() {
     golden("diff-same-text", &["diff", "L.bin", "L.txt"]);
 }
 
+/// Objects of pictures, and the pictures that have none.
+#[test]
+fn objects_made_from_pictures() {
+    for (name, line) in [
+        ("make", "make 320 240 rgba 16b"),
+        ("make-ci", "make 301 20 CI 4b --pointer 0x06000000"),
+        (
+            "make-wide",
+            "make 8192 2 I 4b --scissor=300,0,1023,1 --address 0x1000",
+        ),
+        ("make-scissor", "make 64 64 ia 8b --scissor 0,0,1024,1"),
+        ("make-refused-width", "make 2049 240 rgba 16b"),
+        ("make-refused-both", "make 0 16384 ci 8b"),
+        ("make-refused-texels", "make 0 240 5 16"),
+    ] {
+        let arguments: Vec<&str> = line.split(' ').collect();
+        golden(name, &arguments);
+    }
+}
+
 #[test]
 fn raw_is_what_bgplan_prints() {
     let cases = cases();
@@ -497,6 +517,152 @@ fn options_override_a_record() {
     assert_ne!(filtered, case_text("E.txt"));
 }
 
+/// From a width and a height to a sheet: the object in the file is the one in the hex lines, and its
+/// plan the one that was printed.
+#[test]
+fn an_object_is_made_planned_and_drawn() {
+    let folder = folder("make");
+    let made = |out: &str| {
+        let arguments = ["make", "320", "240", "rgba", "16b", "-o", out];
+        ran(VISOR, &arguments, &folder, b"")
+    };
+    let Ran { out, err, status } = made("title.bin");
+    assert_eq!((err.as_str(), status), ("", 0));
+    let bytes = std::fs::read(folder.join("title.bin")).expect("an object");
+    let hex = out.split("\n\n").nth(2).expect("the bytes in hex");
+    assert_eq!(hex.split_whitespace().collect::<Vec<_>>(), pairs(&bytes));
+    let planned = ran(VISOR, &["plan", "title.bin"], &folder, b"");
+    assert_eq!(planned.status, 0);
+    assert!(out.ends_with(&planned.out), "{out}");
+    let pasted = visor_on(&["plan", "-"], hex.as_bytes());
+    assert_eq!(pasted.out, planned.out);
+    for sheet in ["title.svg", "title.png", "title.html"] {
+        let drawn = ran(VISOR, &["draw", "title.bin", "-o", sheet], &folder, b"");
+        assert_eq!(drawn.status, 0, "{}", drawn.err);
+        let said = format!("{sheet}: verdict 0, The plan is complete.\n");
+        assert!(drawn.out.starts_with(&said), "{}", drawn.out);
+    }
+    assert_eq!(made("no/such/title.bin").status, 3);
+}
+
+/// Formats and sizes by their names, in any case, and by their numbers.
+#[test]
+fn names_and_numbers_make_the_same_object() {
+    let made = |format: &str, size: &str| visor(&["make", "32", "0x10", format, size]);
+    let formats = ["rgba", "yuv", "ci", "ia", "i"];
+    let sizes = ["4b", "8b", "16b", "32b"];
+    for (f, format) in formats.iter().enumerate() {
+        for (s, size) in sizes.iter().enumerate() {
+            let named = made(format, size);
+            assert_eq!((named.status, named.err.as_str()), (0, ""));
+            let stored = format!(" ff f4 {f:02x} {s:02x} ");
+            assert!(named.out.contains(&stored), "{}", named.out);
+            let upper = made(&format.to_uppercase(), &size.to_uppercase());
+            assert_eq!(upper, named);
+            assert_eq!(made(&f.to_string(), &s.to_string()), named);
+            assert_eq!(made(&format!("0x{f}"), &format!("0x{s}")), named);
+        }
+    }
+}
+
+/// Pictures that are refused: the number of the refusal, and what is said of the number at fault.
+const REFUSED: &[(&str, u8, &str)] = &[
+    ("320 240 0 4", 4, "the size is 4, and may be 0 to 3: "),
+    ("320 240 5 2", 4, "the format is 5, and may be 0 to 4: "),
+    ("0 240 0 2", 11, "the width is 0, and may be 1 to 2,048"),
+    ("320 0 0 2", 11, "the height is 0, and may be 1 to 16,383"),
+    ("8193 1 i 4b", 11, "1 to 8,192 texels of I 4 bits"),
+    ("4097 1 ci 4b", 11, "1 to 4,096 texels of CI 4 bits"),
+    ("1025 1 ia 32b", 11, "1 to 1,024 texels of IA 32 bits"),
+    ("99999999 1 yuv 8b", 11, "the width is 99,999,999, and"),
+    (
+        "1 0xffffffffffffffff 0 0",
+        11,
+        "is 18,446,744,073,709,551,615",
+    ),
+];
+
+/// A picture that is refused leaves a file as it was, and makes none.
+#[test]
+fn a_refused_picture_is_not_written() {
+    let folder = folder("refused");
+    std::fs::write(folder.join("old.bin"), b"as it was").expect("a file");
+    for (picture, number, said) in REFUSED {
+        for name in ["old.bin", "new.bin"] {
+            let mut arguments = vec!["make"];
+            arguments.extend(picture.split(' ').chain(["-o", name]));
+            let Ran { out, err, status } = ran(VISOR, &arguments, &folder, b"");
+            assert_eq!((err.as_str(), status), ("", 1), "{picture}");
+            let lines: Vec<&str> = out.lines().collect();
+            let [refusal, fault, written] = lines[..] else {
+                panic!("{out}");
+            };
+            let refused = format!("REFUSED, number {number}: The ");
+            assert!(refusal.starts_with(&refused), "{out}");
+            assert!(fault.contains(said), "{out}");
+            assert_eq!(written, format!("{name}: nothing is written"));
+        }
+    }
+    let files = std::fs::read_dir(&folder).expect("the folder").count();
+    let old = std::fs::read(folder.join("old.bin")).expect("the file");
+    assert_eq!((files, old.as_slice()), (1, &b"as it was"[..]));
+}
+
+/// Lines that are wrong use, and what is said of them.
+const NO_PICTURES: &[(&str, &str)] = &[
+    (
+        "-1 240 rgba 16b",
+        "W wants a number of 64 bits, decimal or 0x.., not -1",
+    ),
+    (
+        "wide 240 rgba 16b",
+        "W wants a number of 64 bits, decimal or 0x.., not wide",
+    ),
+    (
+        "320 2.5 rgba 16b",
+        "H wants a number of 64 bits, decimal or 0x.., not 2.5",
+    ),
+    (
+        "320 18446744073709551616 rgba 16b",
+        "H wants a number of 64 bits, decimal or 0x.., not 18446744073709551616",
+    ),
+    (
+        "320 240 rgb 16b",
+        "FMT wants RGBA, YUV, CI, IA, I or a number, not rgb",
+    ),
+    (
+        "320 240 -1 16b",
+        "FMT wants RGBA, YUV, CI, IA, I or a number, not -1",
+    ),
+    (
+        "320 240 rgba 64b",
+        "SIZ wants 4b, 8b, 16b, 32b or a number, not 64b",
+    ),
+    ("320 240 rgba", "too few operands: W H FMT SIZ is wanted"),
+    (
+        "320 240 rgba 16b x",
+        "too many operands: W H FMT SIZ is wanted",
+    ),
+    ("320 240 rgba 16b -o", "-o wants a value"),
+    (
+        "320 240 rgba 16b --pointer 0x100000000",
+        "--pointer wants a number of 32 bits, decimal or 0x.., not 0x100000000",
+    ),
+    ("320 240 rgba 16b --as copy", "there is no option --as"),
+    ("320 240 rgba 16b --mode 8", "there is no option --mode"),
+];
+
+#[test]
+fn pictures_that_are_wrong_use() {
+    for (line, said) in NO_PICTURES {
+        let mut arguments = vec!["make"];
+        arguments.extend(line.split(' '));
+        let Ran { out, err, status } = visor(&arguments);
+        let wanted = format!("visor: {said}\nvisor: `visor --help` says how it is used\n");
+        assert_eq!((out.as_str(), err, status), ("", wanted, 2), "{line}");
+    }
+}
+
 #[test]
 fn exit_statuses() {
     assert_eq!(visor(&["plan", "L.bin"]).status, 0);
@@ -681,7 +847,7 @@ fn the_version_names_the_library() {
 fn the_manual_is_a_page_for_man() {
     let page = visor(&["--man"]).out;
     assert!(page.starts_with(".TH VISOR 1 "));
-    for name in ["plan", "draw", "report", "explain", "diff"] {
+    for name in ["plan", "draw", "report", "explain", "diff", "make"] {
         assert!(page.contains(&format!("\n.SS {name}\n")), "{name}");
     }
     if has("groff") {

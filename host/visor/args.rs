@@ -84,9 +84,13 @@ impl Args {
 
     pub fn any_operands(self) -> Result<Vec<OsString>, Failure> {
         let mut operands = self.left;
-        let unknown = operands
-            .iter()
-            .find(|argument| argument.to_string_lossy().starts_with('-') && *argument != "-");
+        let option = |argument: &&OsString| {
+            let text = argument.to_string_lossy();
+            // What begins as a negative number is no option.
+            let name = text.strip_prefix('-').filter(|name| !name.is_empty());
+            name.is_some_and(|name| !name.starts_with(|letter: char| letter.is_ascii_digit()))
+        };
+        let unknown = operands.iter().find(option);
         if let Some(unknown) = unknown {
             let name = unknown.to_string_lossy();
             return Err(Failure::Use(format!("there is no option {name}")));
@@ -133,12 +137,24 @@ mod tests {
             "there is no option --what"
         );
         assert_eq!(
+            said(args("-x1").operands::<1>("FILE").unwrap_err()),
+            "there is no option -x1"
+        );
+        assert_eq!(
             said(args("").operands::<1>("FILE").unwrap_err()),
             "too few operands: FILE is wanted"
         );
         assert_eq!(
             said(args("a b").operands::<1>("FILE").unwrap_err()),
             "too many operands: FILE is wanted"
+        );
+    }
+
+    #[test]
+    fn negative_numbers_are_operands() {
+        assert_eq!(
+            args("-5 -0x7").operands::<2>("TWO").unwrap(),
+            ["-5", "-0x7"]
         );
     }
 

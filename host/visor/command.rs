@@ -2,6 +2,7 @@
 
 use crate::args::Args;
 use crate::io::Io;
+use visorlongan::End;
 
 /// One command of visor. A file of commands/ has one as its `COMMAND`.
 pub struct Command {
@@ -24,10 +25,20 @@ pub type Outcome = Result<Status, Failure>;
 /// How a command ended that could do its work: the exit status.
 #[derive(Clone, Copy, Debug, PartialEq, Eq)]
 pub enum Status {
-    /// Planned, drawn, the same.
+    /// Planned, drawn, made, the same.
     Good = 0,
-    /// A plan was refused, or two differ.
+    /// A plan or a picture was refused, or two plans differ.
     Refused = 1,
+}
+
+impl Status {
+    /// That of a plan, by its end.
+    pub fn of(end: &End) -> Status {
+        match end.result() {
+            Ok(()) => Status::Good,
+            Err(_) => Status::Refused,
+        }
+    }
 }
 
 /// Why a command could not do its work.

@@ -172,7 +172,7 @@ const COPY: &[Field] = &[
         36,
         2,
         Number,
-        "words of an image row, times 2",
+        "words of an image row, or those times 2",
     ),
     Field::new(
         "tmem_size",
@@ -253,19 +253,58 @@ pub fn named(name: &str) -> Option<&'static Field> {
     all.into_iter().find(|field| field.name == name)
 }
 
+/// The formats, each at its number.
+const FORMATS: [&str; 5] = ["RGBA", "YUV", "CI", "IA", "I"];
+
+/// The bits of a texel, each at its size.
+const BITS: [u8; 4] = [4, 8, 16, 32];
+
 /// What a format is called.
 pub fn format_name(fmt: u8) -> String {
-    let names = ["RGBA", "YUV", "CI", "IA", "I"];
-    let name = names.get(usize::from(fmt)).copied();
+    let name = FORMATS.get(usize::from(fmt)).copied();
     name.map_or(format!("unknown format {fmt}"), str::to_string)
+}
+
+/// What texels are called, by their format and size.
+pub fn texels(fmt: u8, siz: u8) -> String {
+    [format_name(fmt), texel_bits(siz)].join(" ")
+}
+
+/// The names of all formats, in their order.
+pub fn format_names() -> String {
+    FORMATS.join(", ")
+}
+
+/// The format of a name, in letters of either case.
+pub fn format_number(name: &str) -> Option<u64> {
+    let place = FORMATS
+        .iter()
+        .position(|format| format.eq_ignore_ascii_case(name));
+    place.map(|place| place as u64)
 }
 
 /// The bits of a texel, by its size.
 pub fn texel_bits(siz: u8) -> String {
-    match siz {
-        0..=3 => format!("{} bits", 4 << siz),
-        _ => format!("unknown size {siz}"),
-    }
+    let bits = BITS.get(usize::from(siz));
+    bits.map_or(format!("unknown size {siz}"), |bits| format!("{bits} bits"))
+}
+
+/// The sizes by their bits, as the microcode's headers write them.
+fn sizes() -> [String; 4] {
+    BITS.map(|bits| format!("{bits}b"))
+}
+
+/// The names of all sizes, in their order.
+pub fn size_names() -> String {
+    sizes().join(", ")
+}
+
+/// The size of a name, in letters of either case.
+pub fn size_number(name: &str) -> Option<u64> {
+    let place = sizes()
+        .iter()
+        .position(|size| size.eq_ignore_ascii_case(name));
+    place.map(|place| place as u64)
 }
 
 /// How a number of an entry is written.
@@ -422,7 +461,8 @@ pub fn kind(number: u64) -> Option<&'static EntryKind> {
 }
 
 /// A number with its thousands set apart, as in 1,024.
-pub fn grouped(number: i64) -> String {
+pub fn grouped(number: impl Into<i128>) -> String {
+    let number = number.into();
     let digits = number.unsigned_abs().to_string();
     let mut text = String::from(if number < 0 { "-" } else { "" });
     for (place, digit) in digits.char_indices() {
@@ -437,7 +477,7 @@ pub fn grouped(number: i64) -> String {
 /// A count and what is counted, one or more: "1 entry", "6 entries".
 pub fn counted(number: u64, one: &str, more: &str) -> String {
     let what = if number == 1 { one } else { more };
-    format!("{} {what}", grouped(number as i64))
+    format!("{} {what}", grouped(number))
 }
 
 #[cfg(test)]
@@ -501,6 +541,24 @@ mod tests {
     }
 
     #[test]
+    fn formats_and_sizes_by_name() {
+        for number in 0..5 {
+            let name = format_name(number);
+            assert_eq!(format_number(&name), Some(number.into()));
+            assert_eq!(format_number(&name.to_lowercase()), Some(number.into()));
+        }
+        for name in ["", "rgb", "rgba ", "0", "unknown format 5"] {
+            assert_eq!(format_number(name), None);
+        }
+        let sizes = ["4b", "8B", "16b", "32b", "16", "64b", "b", ""].map(size_number);
+        let wanted = [Some(0), Some(1), Some(2), Some(3), None, None, None, None];
+        assert_eq!(sizes, wanted);
+        assert_eq!(format_names(), "RGBA, YUV, CI, IA, I");
+        assert_eq!(size_names(), "4b, 8b, 16b, 32b");
+        assert_eq!(texels(3, 1), "IA 8 bits");
+    }
+
+    #[test]
     fn numbers_as_people_write_them() {
         let written = [0, 999, 1000, -1030, 5_232_646].map(grouped);
         assert_eq!(written, ["0", "999", "1,000", "-1,030", "5,232,646"]);
@@ -513,5 +571,6 @@ mod tests {
             ["4 bits", "32 bits", "unknown size 4"]
         );
         assert_eq!(grouped(i64::MIN), "-9,223,372,036,854,775,808");
+        assert_eq!(grouped(u64::MAX), "18,446,744,073,709,551,615");
     }
 }

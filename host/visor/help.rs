@@ -16,8 +16,11 @@ mode, the opcode and the address, as bgplan reads it), or an object: 40 bytes of
 names and ASCII columns are left out. What a FILE was taken for is said on standard error.";
 
 const STATUS: &[(&str, &str)] = &[
-    ("0", "planned, drawn, or the same"),
-    ("1", "refused, and the verdict is said; or two plans differ"),
+    ("0", "planned, drawn, made, or the same"),
+    (
+        "1",
+        "refused, and the verdict or the reason is said; or two plans differ",
+    ),
     (
         "2",
         "wrong use, or input that says nothing that could be planned",

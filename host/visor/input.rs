@@ -71,21 +71,30 @@ impl Asked {
     /// Takes these options off a command line.
     pub fn take(args: &mut Args) -> Result<Asked, Failure> {
         let form = args.text("--as")?.map(|value| form(&value));
-        let scissor = args.text("--scissor")?.map(|value| scissor(&value));
         let mode = args.text("--mode")?.map(|value| number("--mode", &value));
+        Ok(Asked {
+            form: form.transpose()?,
+            render_mode: mode.transpose()?,
+            ..Asked::take_places(args)?
+        })
+    }
+
+    /// Takes the scissor and the address alone: the others mean nothing to a copy object that is
+    /// made here.
+    pub fn take_places(args: &mut Args) -> Result<Asked, Failure> {
+        let scissor = args.text("--scissor")?.map(|value| scissor(&value));
         let address = args
             .text("--address")?
             .map(|value| number("--address", &value));
         Ok(Asked {
-            form: form.transpose()?,
             scissor: scissor.transpose()?,
-            render_mode: mode.transpose()?,
             address: address.transpose()?,
+            ..Asked::default()
         })
     }
 
     /// The request of an object's bytes, which are as many as the mode wants, or fewer.
-    fn object(&self, name: &str, bytes: &[u8], mode: Mode) -> Subject {
+    pub fn object(&self, name: &str, bytes: &[u8], mode: Mode) -> Subject {
         Subject {
             name: name.to_string(),
             object: bytes[..bytes.len().min(mode.object_bytes())].to_vec(),
@@ -156,14 +165,15 @@ fn scissor(value: &str) -> Result<Scissor, Failure> {
     }
 }
 
-fn number<T: TryFrom<i128>>(option: &str, value: &str) -> Result<T, Failure> {
+/// The number that an option or operand of this name has as its value.
+pub fn number<T: TryFrom<i128>>(name: &str, value: &str) -> Result<T, Failure> {
     let bits = 8 * size_of::<T>();
-    let wanted = format!("{option} wants a number of {bits} bits, decimal or 0x.., not {value}");
+    let wanted = format!("{name} wants a number of {bits} bits, decimal or 0x.., not {value}");
     parsed(value).ok_or(Failure::Use(wanted))
 }
 
 /// A number in decimal, or in hex after 0x.
-fn parsed<T: TryFrom<i128>>(text: &str) -> Option<T> {
+pub fn parsed<T: TryFrom<i128>>(text: &str) -> Option<T> {
     let (negative, digits) = match text.strip_prefix('-') {
         Some(digits) => (true, digits),
         None => (false, text),

@@ -1,6 +1,7 @@
 //! visor: what people do with backgrounds. It reads records, objects and hex dumps, and shows their
-//! plans as tables, text, sheets and reports. This program parses and prints; entries, verdicts,
-//! strip numbers and drift come from the proved library.
+//! plans as tables, text, sheets and reports; and it makes the object of a picture. This program
+//! parses and prints; entries, verdicts, strip numbers, drift and objects come from the proved
+//! library.
 
 mod args;
 mod command;

@@ -117,8 +117,9 @@ pub const ALL: &[Page] = &[
             "image_w",
             "image_h",
         ],
-        right: "An object that guS2DInitBg has filled. Zeros from tmem_w on mean that it was not \
-                called; a scaled object has its scales there, and wants the opcode 9.",
+        right: "An object that guS2DInitBg has filled or `visor make` has made. Zeros from tmem_w \
+                on mean that neither has; a scaled object has its scales there, and wants the \
+                opcode 9.",
         example: "visor plan N-copy.bin",
         seen: "Case L with a load of 0x0033.",
     },
@@ -158,7 +159,8 @@ pub const ALL: &[Page] = &[
         look: &["tmem_h", "image_w", "frame_w", "image_fmt", "image_siz"],
         right: "A tmem_h of at most 4 times the rows that fit (words of texture memory / words of \
                 a row, rounded down), and tmem_load_sh and tmem_size made anew from it. A strip \
-                that does not begin at a whole word needs one word more in each row.",
+                that does not begin at a whole word needs one word more in each row. `visor make` \
+                makes an object of a picture that has it right for every frame.",
         example: "visor plan B.bin",
         seen: "Rows of 80 words, 7 at once: 560 of 512 words. Case A has 6 at once and is planned.",
     },

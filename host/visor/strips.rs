@@ -1,7 +1,7 @@
 //! A plan as a table by strips: what was asked for, a row for each rectangle, and how it ended.
 
 use crate::command::Failure;
-use crate::fields::{address, counted, format_name, grouped, texel_bits};
+use crate::fields::{address, counted, grouped, texels};
 use crate::input::Subject;
 use crate::io::{Io, Style};
 use crate::pages;
@@ -232,7 +232,7 @@ pub fn introduce(subject: &Subject, io: &mut Io) -> Result<(), Failure> {
     };
     let kind = io.styled(Style::Heading, &kind(subject, &object));
     let size = size(object.image_w, object.image_h);
-    let texels = [format_name(object.image_fmt), texel_bits(object.image_siz)].join(" ");
+    let texels = texels(object.image_fmt, object.image_siz);
     let (x, y) = (f64::from(object.image_x), f64::from(object.image_y));
     let flip = flip(mode, object.image_flip);
     writeln!(io.out, "{kind}")?;
@@ -263,14 +263,15 @@ fn kind(subject: &Subject, object: &Object) -> String {
     match object.kind {
         Kind::Copy { tmem_h, .. } => {
             let rows = f64::from(tmem_h);
-            format!("copy background, strips of up to {rows} rows")
+            let what = if rows == 1.0 { "row" } else { "rows" };
+            format!("copy background, strips of up to {rows} {what}")
         }
         Kind::Scaled {
             scale_w,
             scale_h,
             image_y_orig,
         } => {
-            let [across, down] = [scale_w, scale_h].map(|scale| grouped(scale.0.into()));
+            let [across, down] = [scale_w, scale_h].map(|scale| grouped(scale.0));
             let origin = f64::from(image_y_orig);
             let filter = if subject.render_mode & 8 != 0 {
                 ", bilinear filter"

@@ -7,3 +7,4 @@ pub mod Calls
 pub mod Stepped
 pub mod Applied
 pub mod Loads
+pub mod Pictures

@@ -7,3 +7,4 @@ pub mod Applied
 pub mod Columns
 pub mod Measured
 pub mod Early
+pub mod Pictures

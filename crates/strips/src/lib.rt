@@ -5,4 +5,4 @@ mod frame;
 mod strip;
 
 pub use frame::{copy_empty, copy_of, texels_per_word};
-pub use strip::{column_at, strip_from, strip_height, strip_of, strip_row};
+pub use strip::{column_at, line_of, strip_from, strip_height, strip_of, strip_row};

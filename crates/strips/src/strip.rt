@@ -59,7 +59,7 @@ fn aligned(c: Copy, n: u64) -> u64
 }
 
 // The words of a line. By cases, so that each quotient is by a constant, which the compiler turns into a shift.
-fn line_of(siz: u64, load_width: u64) -> u64
+pub fn line_of(siz: u64, load_width: u64) -> u64
     requires siz_bound { siz ≤ 3 }
     requires load_width_bound { load_width ≤ 16383 }
     ensures { result ≡ line_of siz load_width }

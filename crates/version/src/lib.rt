@@ -6,12 +6,12 @@ ghost use Rattle.version.specs.Version.{version_of};
 
 const MAJOR: u64 = 0;
 
-const MINOR: u64 = 6;
+const MINOR: u64 = 7;
 
 const PATCH: u64 = 0;
 
 pub fn number() -> u64
-    ensures { result ≡ version_of 0 6 0 }
+    ensures { result ≡ version_of 0 7 0 }
 {
     MAJOR * 65536 + MINOR * 256 + PATCH
 }

@@ -62,10 +62,7 @@ fn run(mut args: Args, io: &mut Io) -> Outcome {
     for line in &sheet.words {
         writeln!(io.out, "{line}")?;
     }
-    Ok(match verdict {
-        Verdict::Finished => Status::Good,
-        _ => Status::Refused,
-    })
+    Ok(Status::of(&study.end))
 }
 
 #[derive(Clone, Copy)]

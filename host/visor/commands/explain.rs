@@ -37,7 +37,8 @@ look at  offset  bytes  field         unit        meaning
 right    A tmem_h of at most 4 times the rows that fit (words of texture memory /
          words of a row, rounded down), and tmem_load_sh and tmem_size made anew
          from it. A strip that does not begin at a whole word needs one word more in
-         each row.
+         each row. `visor make` makes an object of a picture that has it right for
+         every frame.
 
 example  Rows of 80 words, 7 at once: 560 of 512 words. Case A has 6 at once and is
          planned.

@@ -53,10 +53,7 @@ fn run(mut args: Args, io: &mut Io) -> Outcome {
     };
     let subject = input::subject(&file, &asked, io)?;
     let end = print(&subject, io)?;
-    Ok(match end.result() {
-        Ok(()) => Status::Good,
-        Err(_) => Status::Refused,
-    })
+    Ok(Status::of(&end))
 }
 
 /// Does something with each entry, its number and its measure, and answers the end.

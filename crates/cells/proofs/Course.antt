@@ -1,0 +1,79 @@
+-- The checks of a copy request one after another, then the test for an empty frame: each answer is one of the three.
+-- Assumes nothing.
+use Rattle.std.specs.Prelude.{◌≡◌, refl, Ok, Err, Bool, true, false, List, ℕ, ◌+◌, ◌/◌, ◌≤◌, eqb}
+use Rattle.std.proofs.Common.{sym, ap, subst, ◌∙◌, arith}
+use Rattle.object.specs.declared.types.Scissor.{Scissor}
+use Rattle.object.specs.declared.types.Verdict.{Verdict}
+use Rattle.object.specs.declared.types.Verdict.TheVariants as verdict
+use Rattle.object.specs.declared.types.Background.TheVariants as background
+use Rattle.object.specs.Layout.{layout, value_of, decode, Bytes}
+use Rattle.object.specs.Reads.{read_below}
+use Rattle.checks.specs.Check.{Checked, verdict_number, any, scissor_bad, object_faults, copy_faults, opcode_bad, short, refused_by, object_of, checked_of}
+use Rattle.checks.proofs.Passed.{passed_copy}
+use Rattle.plan.specs.Request.{Request}
+use Rattle.plan.specs.Out.{Out, yield, plan_out}
+use Rattle.plan.specs.Copy.{copy_empty, copy_plan}
+use Rattle.plan.specs.Whole.{copy_out, checked_out, plan_with}
+use Rattle.strips.specs.Frame.{copy_sound}
+use Rattle.cells.specs.Course.{object_in, frame_of, Early, Course}
+use Rattle.cells.specs.Course.Course.{refused, empty, framed}
+
+-- ---- the checks of a copy request
+
+abbrev Kind : ℕ → List ℕ → Checked → Type 0
+Kind p bs (Err v) = Early v
+Kind p bs (Ok (background.Copy bg)) = bg ≡ decode p true bs
+Kind p bs (Ok (background.Scaled bg)) = ⊥
+
+refused_or : (p : ℕ) (bs : List ℕ) (t : Bool) (v : Verdict) (rest : Checked) → Early v → Kind p bs rest → Kind p bs (refused_by t v rest)
+refused_or p bs true v rest r k = r
+refused_or p bs false v rest r k = k
+
+early : (v : Verdict) → eqb (verdict_number v) 0 ≡ false → eqb (verdict_number v) 7 ≡ false → Early v
+early v r n = record { refuses = r; not_7 = n }
+
+copy_kind : (p : ℕ) (bs : List ℕ) (s : Scissor) → Kind p bs (checked_of p bs 10 s)
+unfolding checked_of object_of
+copy_kind p bs s =
+    let bg = decode p true bs in
+    let fifth : Checked = refused_by (any (copy_faults bg)) verdict.Copy (Ok (background.Copy bg)) in
+    let fourth : Checked = refused_by (any (object_faults bg)) verdict.Object fifth in
+    let third : Checked = refused_by (scissor_bad s) verdict.Scissor fourth in
+    let second : Checked = refused_by (short p 10 bs) verdict.Short third in
+    refused_or p bs (opcode_bad 10) verdict.Opcode second (early verdict.Opcode refl refl)
+    (refused_or p bs (short p 10 bs) verdict.Short third (early verdict.Short refl refl)
+    (refused_or p bs (scissor_bad s) verdict.Scissor fourth (early verdict.Scissor refl refl)
+    (refused_or p bs (any (object_faults bg)) verdict.Object fifth (early verdict.Object refl refl)
+    (refused_or p bs (any (copy_faults bg)) verdict.Copy (Ok (background.Copy bg)) (early verdict.Copy refl refl) refl))))
+
+rows_in : (p : ℕ) (bs : List ℕ) → Bytes bs → (decode p true bs).tmem_h / 4 ≤ 16383
+unfolding decode value_of layout
+rows_in p bs h = omega (arith, read_below bs (26 + p) 2 h)
+
+-- ---- what comes of them
+
+empty_out : (p : ℕ) (q : Request) → copy_empty (frame_of p q) ≡ true → copy_out (object_in p q) q ≡ yield tt
+unfolding copy_out
+empty_out p q t = rw (t, copy_out)
+
+drawn_out : (p : ℕ) (q : Request) → copy_empty (frame_of p q) ≡ false → copy_out (object_in p q) q ≡ copy_plan (frame_of p q)
+unfolding copy_out
+drawn_out p q t = rw (t, copy_out)
+
+pub course : (p : ℕ) (q : Request) → q.opcode ≡ 10 → Bytes q.bytes → Course p q
+unfolding plan_with checked_out
+course p q o b = by (checked_of p q.bytes q.opcode q.scissor) refl (subst (λ (n : ℕ). Kind p q.bytes (checked_of p q.bytes n q.scissor)) (sym o) (copy_kind p q.bytes q.scissor))
+  where
+    is : (r : Checked) (a : Out (Unit {0})) → checked_of p q.bytes q.opcode q.scissor ≡ r → checked_out r q ≡ a → plan_with p q ≡ plan_out a
+    is r a e d = ap (λ (r : Checked). plan_out (checked_out r q)) e ∙ ap plan_out d
+
+    passed : (t : Bool) → copy_empty (frame_of p q) ≡ t → checked_of p q.bytes q.opcode q.scissor ≡ Ok (background.Copy (object_in p q)) → Course p q
+    passed true t e = empty t (is (Ok (background.Copy (object_in p q))) (yield tt) e (empty_out p q t))
+    passed false t e =
+        framed (copy_sound (object_in p q) q.scissor q.address (passed_copy p q.bytes q.opcode q.scissor (object_in p q) b e) (rows_in p q.bytes b) t)
+        (is (Ok (background.Copy (object_in p q))) (copy_plan (frame_of p q)) e (drawn_out p q t))
+
+    by : (r : Checked) → checked_of p q.bytes q.opcode q.scissor ≡ r → Kind p q.bytes r → Course p q
+    by (Err v) e k = refused v k (is (Err v) _ e refl)
+    by (Ok (background.Copy bg)) e k = passed (copy_empty (frame_of p q)) refl (e ∙ ap (λ (bg : _). Ok (background.Copy bg)) k)
+    by (Ok (background.Scaled bg)) e k = absurd k
