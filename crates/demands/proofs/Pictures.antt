@@ -10,7 +10,6 @@ use Rattle.tile.specs.declared.bank.Bank.{Bank}
 use Rattle.plan.specs.declared.types.Entry.{Entry}
 use Rattle.plan.specs.declared.types.End.{End}
 use Rattle.plan.specs.Out.{Plan}
-use Rattle.plan.specs.declared.types.Copy.{Copy}
 use Rattle.plan.specs.Copy.{copy_of}
 use Rattle.plan.specs.Run.{end_of, cut_at, rectangles, words_from}
 use Rattle.plan.specs.Steps.{Answer, answers}
@@ -33,15 +32,6 @@ unfolding answers
 never zero es e h = tt
 never (suc n) [] e h = (h, never n [] e h)
 never (suc n) (x ∷ es) e h = never n es e h
-
--- a plan that stops at its first strip, into a buffer of n words
-cut_end : (c : Copy) (n : ℕ) → end_of (cut_at n (record { entries = image_entry c ∷ []; left = []; verdict = verdict.TooBig })) ≡ cond (ltb n 11) full_end too_big_end
-unfolding end_of cut_at rectangles words_from
-cut_end c n = by (ltb n 11) refl
-  where
-    by : (t : Bool) → ltb n 11 ≡ t → end_of (cut_at n (record { entries = image_entry c ∷ []; left = []; verdict = verdict.TooBig })) ≡ cond t full_end too_big_end
-    by true t = let l = ltb-true n 11 t in let z : n / 11 ≡ 0 = omega arith in rw z refl
-    by false t = let l = ltb-false n 11 t in rw (le-ltb (n / 11) 1 (omega arith)) refl
 
 -- a buffer that the writer has filled
 module _ (w h f z p : ℕ) (out : List ℕ) (k : p < 2 ^ 32) (e : written_number (wrote_of w h f z p out).answer ≡ 0) where
@@ -68,5 +58,9 @@ module _ (w h f z p : ℕ) (out : List ℕ) (k : p < 2 ^ 32) (e : written_number
 
     -- and a run ends so, or by 10 where its buffer has under eleven words
     pub ran_taller : (buf ws out' ws' : List ℕ) (x : End) → RanIs bytes 10 full mode address buf ws out' ws' x → x ≡ cond (ltb (length buf) 11) full_end too_big_end
-    unfolding run_words
-    ran_taller buf ws out' ws' x ran = ran.end ∙ ap (λ (p : Plan). (run_words p buf ws).end) (one_row_more w h f z p out k e few low taller rest mode address) ∙ cut_end (copy_of (taller_of w h f z p) full address) (length buf)
+    unfolding run_words end_of cut_at rectangles words_from
+    ran_taller buf ws out' ws' x ran = ran.end ∙ ap (λ (p : Plan). (run_words p buf ws).end) (one_row_more w h f z p out k e few low taller rest mode address) ∙ by (ltb (length buf) 11) refl
+      where
+        by : (t : Bool) → ltb (length buf) 11 ≡ t → end_of (cut_at (length buf) (record { entries = image ∷ []; left = []; verdict = verdict.TooBig })) ≡ cond t full_end too_big_end
+        by true t = let l = ltb-true (length buf) 11 t in let z : length buf / 11 ≡ 0 = omega arith in rw z refl
+        by false t = let l = ltb-false (length buf) 11 t in rw (le-ltb (length buf / 11) 1 (omega arith)) refl

@@ -14,8 +14,7 @@ pub const COMMAND: Command = Command {
     summary: "make a copy object from a picture's width, height, format and size",
     usage: "W H FMT SIZ [-o OBJECT] [--pointer NUMBER] [--scissor ULX,ULY,LRX,LRY] \
             [--address NUMBER]",
-    help: "\
-  W, H                         the picture's width and height in texels
+    help: "  W, H                         the picture's width and height in texels
   FMT                          rgba, yuv, ci, ia or i, or its number from 0 to 4
   SIZ                          4b, 8b, 16b or 32b, or its number from 0 to 3
   -o OBJECT                    where the object's 40 bytes go, for `visor plan` and `visor draw`
@@ -27,7 +26,8 @@ The object shows the whole picture at the screen's corner, in strips of as many 
 memory holds. Printed are its fields that are not 0, its bytes in hex, and its plan as `visor plan`
 prints it. Frame, start and flip may be changed in the object afterwards: no such plan ends with
 verdict 7. A picture that no copy object can show is refused, and nothing is written. The exit
-status is 1 then, and where the plan is refused.",
+status is 1 then, and where the plan is refused. Plans read rows of whole bytes: a picture of 4 bits
+a texel wants an even width, and of an odd one a line says so.",
     example: "make 320 12 rgba 16b -o bar.bin",
     shows: "\
 bar.bin: a copy object for a picture of 320 x 12 texels, RGBA 16 bits
@@ -139,9 +139,23 @@ fn made(
         let pairs: Vec<String> = bytes.iter().map(|byte| format!("{byte:02x}")).collect();
         writeln!(io.out, "  {}", pairs.join(" "))?;
     }
+    if let Some(warning) = askew(wanted) {
+        writeln!(io.out, "\n{}", io.styled(Style::Bad, &warning))?;
+    }
     writeln!(io.out)?;
     let end = strips::print(&asked.object("picture", object, Mode::Copy), io)?;
     Ok(Status::of(&end))
+}
+
+/// Rows that end in the middle of a byte: plans read on from there less half a byte (6.3).
+fn askew(wanted: &Wanted) -> Option<String> {
+    let odd = wanted.size == 0 && wanted.width % 2 == 1;
+    odd.then(|| {
+        let bytes = grouped(wanted.width / 2);
+        format!(
+            "Plans read {bytes} bytes a row: rows that begin at whole bytes want an even width."
+        )
+    })
 }
 
 /// The fields that are not 0.
