@@ -358,15 +358,18 @@ impl Plans<'_> {
         Ok(answer.end)
     }
 
-    /// The frame as it is written. The object must also decode to the fields.
+    /// The frame as it is written: the object decodes to the fields and passes the checks, and under
+    /// another scissor its plan is not refused by 7 either.
     fn as_written(&mut self, object: &Object) -> Result<(), String> {
-        let should = |answer: &Answer| {
-            answer.end.verdict != 7 && answer.object.is_none_or(|bg| bg == fields(object))
+        let passes = |answer: &Answer| {
+            let decoded = answer.object == Some(fields(object));
+            decoded && ![1, 2, 3, 4, 5, 7].contains(&answer.end.verdict)
         };
-        for scissor in [WHOLE_SCREEN, generate::scissor(self.random)] {
-            let record = generate::unplaced(self.random, object, scissor);
-            self.plan(Count::AsWritten, record, should)?;
-        }
+        let scissor = generate::scissor(self.random);
+        let record = generate::unplaced(self.random, object, WHOLE_SCREEN);
+        self.plan(Count::AsWritten, record, passes)?;
+        let record = generate::unplaced(self.random, object, scissor);
+        self.plan(Count::AsWritten, record, |answer| answer.end.verdict != 7)?;
         Ok(())
     }
 

@@ -340,7 +340,8 @@ uint64_t visor_drift(const uint8_t *object, size_t object_bytes, const uint64_t 
    bytes beyond stay. width and height are texels; fmt and siz are numbers as in VISOR_IMAGE_FMT and VISOR_IMAGE_SIZ; pointer stands
    in bytes 16 to 19, and may be any. The frame is as large as the picture and lies at 0, the load is 0xfff4, tmem_size_w is the
    words of one row of the picture in texture memory, tmem_h is 4 times the rows that fit there at once, tmem_load_sh and tmem_size
-   are their product, and all other fields are 0 (15.2).
+   are their product, and all other fields are 0 (15.2). From row to row a plan goes on by whole bytes: a picture of 4-bit texels
+   whose rows begin at whole bytes wants an even width.
 
    REFUSALS, in this order. VISOR_WRITTEN_SHORT: out has fewer than VISOR_COPY_BYTES bytes. VISOR_WRITTEN_OBJECT: siz is above 3 or
    fmt is above 4. VISOR_WRITTEN_PICTURE: width or height is 0 or above 16,383, or one row needs more words than texture memory

@@ -7,7 +7,9 @@ use core::fmt;
 ///
 /// `format` is 0 RGBA, 1 YUV, 2 CI, 3 IA, 4 I; `size` is 0 to 3 for texels of 4, 8, 16 and 32 bits.
 /// The frame is as large as the picture and lies at 0, and the fields of texture memory are those
-/// of the picture's own rows, as many at once as fit. The pointer is stored as it is given.
+/// of the picture's own rows, as many at once as fit. The pointer is stored as it is given. From row to
+/// row a plan goes on by whole bytes: a picture of 4-bit texels whose rows begin at whole bytes wants an
+/// even width.
 ///
 /// A host may set other frames and starts afterwards, and a flip of 0 or 1: no such plan ends with
 /// [`Verdict::TooBig`](crate::Verdict::TooBig).

@@ -543,6 +543,17 @@ fn an_object_is_made_planned_and_drawn() {
         assert!(drawn.out.starts_with(&said), "{}", drawn.out);
     }
     assert_eq!(made("no/such/title.bin").status, 3);
+    // An object is replaced, and the picture itself is not.
+    std::fs::write(folder.join("title.bin"), [0; 40]).expect("an object");
+    assert_eq!(made("title.bin").status, 0);
+    let again = std::fs::read(folder.join("title.bin")).expect("an object");
+    assert_eq!(again, bytes);
+    let picture = std::fs::read(folder.join("title.png")).expect("a picture");
+    let Ran { out, err, status } = made("title.png");
+    assert_eq!((out.as_str(), status), ("", 2));
+    assert!(err.contains("title.png is there and is no object of 40 bytes"));
+    let kept = std::fs::read(folder.join("title.png")).expect("a picture");
+    assert_eq!(kept, picture);
 }
 
 /// Formats and sizes by their names, in any case, and by their numbers.

@@ -15,22 +15,19 @@ use Rattle.plan.specs.Out.{Out, yield, plan_out}
 use Rattle.plan.specs.Copy.{copy_empty, copy_plan}
 use Rattle.plan.specs.Whole.{copy_out, checked_out, plan_with}
 use Rattle.strips.specs.Frame.{copy_sound}
-use Rattle.cells.specs.Course.{object_in, frame_of, Early, Course}
+use Rattle.cells.specs.Course.{object_in, frame_of, Course}
 use Rattle.cells.specs.Course.Course.{refused, empty, framed}
 
 -- ---- the checks of a copy request
 
 abbrev Kind : ℕ → List ℕ → Checked → Type 0
-Kind p bs (Err v) = Early v
+Kind p bs (Err v) = eqb (verdict_number v) 7 ≡ false
 Kind p bs (Ok (background.Copy bg)) = bg ≡ decode p true bs
 Kind p bs (Ok (background.Scaled bg)) = ⊥
 
-refused_or : (p : ℕ) (bs : List ℕ) (t : Bool) (v : Verdict) (rest : Checked) → Early v → Kind p bs rest → Kind p bs (refused_by t v rest)
+refused_or : (p : ℕ) (bs : List ℕ) (t : Bool) (v : Verdict) (rest : Checked) → eqb (verdict_number v) 7 ≡ false → Kind p bs rest → Kind p bs (refused_by t v rest)
 refused_or p bs true v rest r k = r
 refused_or p bs false v rest r k = k
-
-early : (v : Verdict) → eqb (verdict_number v) 0 ≡ false → eqb (verdict_number v) 7 ≡ false → Early v
-early v r n = record { refuses = r; not_7 = n }
 
 copy_kind : (p : ℕ) (bs : List ℕ) (s : Scissor) → Kind p bs (checked_of p bs 10 s)
 unfolding checked_of object_of
@@ -40,11 +37,11 @@ copy_kind p bs s =
     let fourth : Checked = refused_by (any (object_faults bg)) verdict.Object fifth in
     let third : Checked = refused_by (scissor_bad s) verdict.Scissor fourth in
     let second : Checked = refused_by (short p 10 bs) verdict.Short third in
-    refused_or p bs (opcode_bad 10) verdict.Opcode second (early verdict.Opcode refl refl)
-    (refused_or p bs (short p 10 bs) verdict.Short third (early verdict.Short refl refl)
-    (refused_or p bs (scissor_bad s) verdict.Scissor fourth (early verdict.Scissor refl refl)
-    (refused_or p bs (any (object_faults bg)) verdict.Object fifth (early verdict.Object refl refl)
-    (refused_or p bs (any (copy_faults bg)) verdict.Copy (Ok (background.Copy bg)) (early verdict.Copy refl refl) refl))))
+    refused_or p bs (opcode_bad 10) verdict.Opcode second refl
+    (refused_or p bs (short p 10 bs) verdict.Short third refl
+    (refused_or p bs (scissor_bad s) verdict.Scissor fourth refl
+    (refused_or p bs (any (object_faults bg)) verdict.Object fifth refl
+    (refused_or p bs (any (copy_faults bg)) verdict.Copy (Ok (background.Copy bg)) refl refl))))
 
 rows_in : (p : ℕ) (bs : List ℕ) → Bytes bs → (decode p true bs).tmem_h / 4 ≤ 16383
 unfolding decode value_of layout

@@ -19,12 +19,8 @@ object_in p q = decode p true q.bytes
 abbrev pub frame_of : ℕ → Request → Copy
 frame_of p q = copy_of (object_in p q) q.scissor q.address
 
--- a refusal by the checks is neither 0 nor 7
-pub record Early (v : Verdict) : Type 0 where
-  pub refuses : eqb (verdict_number v) 0 ≡ false
-  pub not_7 : eqb (verdict_number v) 7 ≡ false
-
 pub data Course (p : ℕ) (q : Request) : Type 0 where
-  refused : (v : Verdict) → Early v → plan_with p q ≡ plan_out (refuse v) → Course p q
+  -- by the checks, and so not by 7
+  refused : (v : Verdict) → eqb (verdict_number v) 7 ≡ false → plan_with p q ≡ plan_out (refuse v) → Course p q
   empty : copy_empty (frame_of p q) ≡ true → plan_with p q ≡ plan_out (yield tt) → Course p q
   framed : SoundCopy (frame_of p q) → plan_with p q ≡ plan_out (copy_plan (frame_of p q)) → Course p q

@@ -1,4 +1,4 @@
--- Demands 2 and 3 of any list of steps from a fresh planner, and of a whole run.
+-- Demands 2 and 3 of any list of steps from a fresh planner, and of a whole run; and what is claimed of the steps of a picture's object.
 pub mod Steps
 pub mod Calls
 pub mod Stepped

@@ -67,9 +67,13 @@ fn wanted(text: &str) -> Result<&'static Page, Failure> {
     let number = text.parse::<u64>().ok();
     let verdict = number.and_then(|number| Verdict::try_from(number).ok());
     let last = pages::ALL.len() - 1;
+    let besides = match number {
+        Some(11) => "; 11 is what `visor make` says of a picture that no object can show",
+        _ => "",
+    };
     let unknown = || {
         Failure::Use(format!(
-            "there is no verdict {text}: they go from 0 to {last}"
+            "there is no verdict {text}: they go from 0 to {last}{besides}"
         ))
     };
     verdict.and_then(pages::of).ok_or_else(unknown)

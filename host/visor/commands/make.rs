@@ -2,12 +2,16 @@
 
 use crate::args::Args;
 use crate::command::{Command, Failure, Outcome, Status};
-use crate::fields::{self, grouped};
+use crate::fields::{self, counted, grouped};
 use crate::input::{self, Asked};
 use crate::io::{self, Io, Style};
 use crate::strips;
-use std::ffi::OsString;
+use std::ffi::{OsStr, OsString};
+use std::path::Path;
 use visorlongan::{copy_object, Mode, NoObject};
+
+/// The bytes of a copy object.
+const OBJECT: u64 = Mode::Copy.object_bytes() as u64;
 
 pub const COMMAND: Command = Command {
     name: "make",
@@ -26,8 +30,9 @@ The object shows the whole picture at the screen's corner, in strips of as many 
 memory holds. Printed are its fields that are not 0, its bytes in hex, and its plan as `visor plan`
 prints it. Frame, start and flip may be changed in the object afterwards: no such plan ends with
 verdict 7. A picture that no copy object can show is refused, and nothing is written. The exit
-status is 1 then, and where the plan is refused. Plans read rows of whole bytes: a picture of 4 bits
-a texel wants an even width, and of an odd one a line says so.",
+status is 1 then; it is 1 too where the plan is refused, and the object is written all the same. An
+object that is there is replaced, and any other file is left as it is. From row to row a plan goes
+on by whole bytes: a picture of 4 bits a texel wants an even width, and of an odd one a line says so.",
     example: "make 320 12 rgba 16b -o bar.bin",
     shows: "\
 bar.bin: a copy object for a picture of 320 x 12 texels, RGBA 16 bits
@@ -129,6 +134,7 @@ fn made(
     let (width, height, texels) = (wanted.width, wanted.height, wanted.texels());
     let mut told = format!("a copy object for a picture of {width} x {height} texels, {texels}");
     if let Some(out) = out {
+        free(&out)?;
         io::save(&out, object)?;
         told = format!("{}: {told}", out.to_string_lossy());
     }
@@ -147,13 +153,26 @@ fn made(
     Ok(Status::of(&end))
 }
 
-/// Rows that end in the middle of a byte: plans read on from there less half a byte (6.3).
+/// Only an object may be replaced: whoever types the picture's name for the object's keeps the picture.
+fn free(out: &OsStr) -> Result<(), Failure> {
+    let taken = Path::new(out).metadata();
+    if taken.is_ok_and(|file| file.is_file() && file.len() != OBJECT) {
+        let name = out.to_string_lossy();
+        return Err(Failure::Use(format!(
+            "{name} is there and is no object of {OBJECT} bytes: give another name"
+        )));
+    }
+    Ok(())
+}
+
+/// What to know of rows that end in the middle of a byte: a plan goes on by whole bytes (6.3).
 fn askew(wanted: &Wanted) -> Option<String> {
     let odd = wanted.size == 0 && wanted.width % 2 == 1;
     odd.then(|| {
-        let bytes = grouped(wanted.width / 2);
+        let bytes = counted(wanted.width / 2, "byte", "bytes");
         format!(
-            "Plans read {bytes} bytes a row: rows that begin at whole bytes want an even width."
+            "From row to row the plan goes on by {bytes}, half a byte less than a row has: rows that\n\
+             begin at whole bytes want an even width."
         )
     })
 }
