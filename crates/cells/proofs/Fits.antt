@@ -8,13 +8,13 @@ use Rattle.checks.specs.Check.{verdict_number}
 use Rattle.load_tile.specs.declared.load.LoadRequest.{LoadRequest}
 use Rattle.plan.specs.Request.{Request}
 use Rattle.plan.specs.declared.types.Copy.{Copy}
-use Rattle.plan.specs.declared.types.Entry.{Entry}
-use Rattle.plan.specs.Out.{Out, more, ◌>>◌, emit, Plan, plan_out}
+use Rattle.plan.specs.Out.{Out, more, emit, Plan, plan_out}
 use Rattle.plan.specs.Out.Out.{go, stop}
 use Rattle.plan.specs.Load.{load_out, load_tile}
 use Rattle.plan.specs.Copy.{copy_capacity, copy_of, strip_of, strip_height_of, strip_entries, copy_plan}
 use Rattle.plan.specs.Whole.{plan_with}
 use Rattle.plan.specs.Sound.{SoundCopy}
+use Rattle.plan.proofs.Stops.{Stops, stops_go, stops_stop, stops_more, stops_bind}
 use Rattle.strips.specs.Strip.{line_of, strip_bounds}
 use Rattle.copy.specs.declared.types.Place.{Place}
 use Rattle.copy.specs.Walk.{image_entry, area_of, request_in, too_big}
@@ -57,27 +57,18 @@ strips_fit c s r = all_map _ _ (places_of c) (strip_fits c s r) (places_in c)
 -- ---- and so none is refused by 7
 
 abbrev Not7 : Out (Unit {0}) → Type 0
-Not7 (go es u) = Unit {0}
-Not7 (stop es l v) = eqb (verdict_number v) 7 ≡ false
-
-not_7_more : (es : List Entry) (o : Out (Unit {0})) → Not7 o → Not7 (more es o)
-not_7_more es (go fs u) h = h
-not_7_more es (stop fs l v) h = h
-
-not_7_bind : (a b : Out (Unit {0})) → Not7 a → Not7 b → Not7 (a >> b)
-not_7_bind (go es u) b h k = not_7_more es b k
-not_7_bind (stop es l v) b h k = h
+Not7 o = Stops (λ v. eqb (verdict_number v) 7 ≡ false) o
 
 load_not_7 : (r : Option LoadRequest) (i uls ult lrs lrt : ℕ) → Not7 (load_out r i uls ult lrs lrt)
 unfolding load_out
-load_not_7 (Some r) i uls ult lrs lrt = tt
-load_not_7 None i uls ult lrs lrt = refl
+load_not_7 (Some r) i uls ult lrs lrt = stops_go _ _
+load_not_7 None i uls ult lrs lrt = stops_stop _ _ refl
 
 entries_not_7 : (p : Place) → Not7 (strip_entries p.copy p.y p.sy p.strip_height p.x p.strip)
 unfolding strip_entries load_tile
 entries_not_7 p =
     let load = load_out (request_in p.copy (area_of p)) 7 _ _ _ _ in
-    not_7_bind (more (_ ∷ _ ∷ _ ∷ []) load) (emit _) (not_7_more (_ ∷ _ ∷ _ ∷ []) load (load_not_7 (request_in p.copy (area_of p)) 7 _ _ _ _)) tt
+    stops_bind (more (_ ∷ _ ∷ _ ∷ []) load) (λ _. emit _) (stops_more (_ ∷ _ ∷ _ ∷ []) load (load_not_7 (request_in p.copy (area_of p)) 7 _ _ _ _)) (λ _. stops_go _ _)
 
 strip_not_7 : (p : Place) → too_big p ≡ false → Not7 (strip_out p)
 unfolding strip_out
@@ -85,15 +76,15 @@ strip_not_7 p t = rw (t, strip_out) (entries_not_7 p)
 
 strips_not_7 : (ps : List Place) → All (λ p. too_big p ≡ false) ps → Not7 (strips_out ps)
 unfolding strips_out
-strips_not_7 [] h = tt
-strips_not_7 (p ∷ ps) h = not_7_bind (strip_out p) (strips_out ps) (strip_not_7 p h.0) (strips_not_7 ps h.1)
+strips_not_7 [] h = stops_go _ _
+strips_not_7 (p ∷ ps) h = stops_bind (strip_out p) (λ _. strips_out ps) (strip_not_7 p h.0) (λ _. strips_not_7 ps h.1)
 
 plan_not_7 : (o : Out (Unit {0})) → Not7 o → eqb (verdict_number (plan_out o).verdict) 7 ≡ false
 plan_not_7 (go es u) h = refl
-plan_not_7 (stop es l v) h = h
+plan_not_7 (stop es l v) h = h.by
 
 copy_not_7 : (c : Copy) → SoundCopy c → Roomy c → Not7 (copy_plan c)
-copy_not_7 c s r = rw (plan_listed c) (not_7_more (image_entry c ∷ []) (strips_out (places_of c)) (strips_not_7 (places_of c) (strips_fit c s r)))
+copy_not_7 c s r = rw (plan_listed c) (stops_more (image_entry c ∷ []) (strips_out (places_of c)) (strips_not_7 (places_of c) (strips_fit c s r)))
 
 -- by the object's own numbers, for every frame, start, flip, scissor and address, and for pointers of p bytes
 pub never_7 : (p : ℕ) (q : Request) → q.opcode ≡ 10 → Bytes q.bytes

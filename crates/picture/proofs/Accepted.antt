@@ -1,12 +1,23 @@
 -- The numbers of a picture that is not refused: each test the other way round, and the strip that a capacity holds.
 -- Assumes nothing.
-use Rattle.std.specs.Prelude.{◌≡◌, Bool, true, false, cond, ◌||◌, ℕ, zero, suc, ◌+◌, ◌*◌, ◌/◌, ◌≤◌, ◌<◌, ltb, eqb}
-use Rattle.std.proofs.Common.{arith, ltb-false, div-le_self, div-mul-le_self, div-add-mod', le-div_iff_mul-le, mod-lt}
+use Rattle.std.specs.Prelude.{◌≡◌, refl, Bool, true, false, cond, ◌||◌, List, [], ◌∷◌, ◌++◌, ℕ, zero, suc, ◌+◌, ◌*◌, ◌/◌, ◌≤◌, ◌<◌, ltb, eqb}
+use Rattle.std.proofs.Math.Bool.{or_assoc, or-false}
+use Rattle.std.proofs.Common.{sym, ap, ◌∙◌, arith, ltb-false, div-le_self, div-mul-le_self, div-add-mod', le-div_iff_mul-le, mod-lt}
 use Rattle.signed.specs.Bound.{or_false, some}
 use Rattle.checks.specs.Check.{any}
 use Rattle.plan.specs.Copy.{copy_capacity}
 use Rattle.strips.specs.Strip.{line_of}
-use Rattle.picture.specs.Writer.{format_faults, size_faults}
+use Rattle.picture.specs.Writer.{format_faults, size_faults, picture_faults}
+
+any_append : (ts us : List Bool) → any (ts ++ us) ≡ (any ts || any us)
+any_append [] us = refl
+any_append (t ∷ ts) us = ap (λ (b : Bool). t || b) (any_append ts us) ∙ sym (or_assoc t (any ts) (any us))
+
+-- 11's conditions: those of the sides, or that of the line
+pub picture_is : (w h f z : ℕ) → any (picture_faults w h f z) ≡ (any (size_faults w h) || ltb (copy_capacity f z) (line_of z w))
+picture_is w h f z =
+    let line = ltb (copy_capacity f z) (line_of z w) in
+    any_append (size_faults w h) (line ∷ []) ∙ ap (λ (b : Bool). any (size_faults w h) || b) (or-false line)
 
 -- a row of at least one texel has at least one word
 pub line_some : (z w : ℕ) → z ≤ 3 → 1 ≤ w → 1 ≤ line_of z w

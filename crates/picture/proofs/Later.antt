@@ -1,7 +1,8 @@
 -- Of a buffer that the writer has filled: its bytes decode to the fields, the object passes the checks, and no later object on its picture is verdict 7.
 -- Assumes nothing.
-use Rattle.std.specs.Prelude.{◌≡◌, refl, Ok, Bool, true, false, cond, ◌||◌, List, ◌++◌, ℕ, ◌*◌, ◌/◌, ◌^◌, ◌<◌, ltb, eqb, length, drop}
-use Rattle.std.proofs.Common.{true≢false, subst, arith, ltb-false}
+use Rattle.std.specs.Prelude.{◌≡◌, refl, Ok, Bool, true, false, cond, List, ◌++◌, ℕ, ◌*◌, ◌/◌, ◌^◌, ◌<◌, ltb, eqb, length, drop}
+use Rattle.std.proofs.Common.{sym, subst, ◌∙◌, arith, ltb-false}
+use Rattle.signed.specs.Bound.{or_false}
 use Rattle.object.specs.declared.types.Scissor.{Scissor}
 use Rattle.object.specs.declared.types.Background.TheVariants as background
 use Rattle.object.specs.Layout.{decode, Bytes}
@@ -13,21 +14,12 @@ use Rattle.strips.specs.Strip.{line_of}
 use Rattle.cells.specs.Course.{object_in}
 use Rattle.cells.proofs.Fits.{never_7}
 use Rattle.picture.specs.declared.types.Written.TheVariants as written
-use Rattle.picture.specs.Writer.{picture_of, copy_bytes, strip_rows, format_faults, picture_faults, Wrote, wrote, wrote_of, written_number, SamePicture}
-use Rattle.picture.proofs.Accepted.{Accepted, sized, strip_in}
+use Rattle.picture.specs.Writer.{picture_of, copy_bytes, strip_rows, format_faults, size_faults, picture_faults, Wrote, wrote, wrote_of, written_number, SamePicture}
+use Rattle.picture.proofs.Accepted.{picture_is, Accepted, sized, strip_in}
 use Rattle.picture.proofs.Bytes.{decode_bytes}
 use Rattle.picture.proofs.Passes.{fits, passes_with}
 
 -- ---- what answer 0 says
-
--- the tests that it takes
-all_four : (a b c d e : Bool) → (a || (b || (c || (d || (e || false))))) ≡ false → ((a || (b || (c || (d || false)))) ≡ false) × (e ≡ false)
-all_four true b c d e u = absurd (true≢false u)
-all_four false true c d e u = absurd (true≢false u)
-all_four false false true d e u = absurd (true≢false u)
-all_four false false false true e u = absurd (true≢false u)
-all_four false false false false true u = absurd (true≢false u)
-all_four false false false false false u = (refl, refl)
 
 pub record Filled (w h f z p : ℕ) (out : List ℕ) (r : Wrote) : Type 0 where
   pub accepted : Accepted w h f z
@@ -45,7 +37,7 @@ filled w h f z p out e = by (ltb (length out) 40) (any (format_faults f z)) (any
     by false true c t u e = absurd (omega arith)
     by false false true t u e = absurd (omega arith)
     by false false false t u e =
-        let v = all_four (eqb w 0) (ltb 16383 w) (eqb h 0) (ltb 16383 h) (ltb (copy_capacity f z) (line_of z w)) u in
+        let v = or_false (any (size_faults w h)) (ltb (copy_capacity f z) (line_of z w)) (sym (picture_is w h f z) ∙ u) in
         record { accepted = record { sized = sized w h f z t v.0; line = ltb-false (copy_capacity f z) (line_of z w) v.1 }; is = refl }
 
 -- ---- and what comes of it

@@ -1,32 +1,18 @@
 -- What the writer leaves, by its tests: each refusal, and the object.
 -- Assumes nothing.
-use Rattle.std.specs.Prelude.{◌≡◌, refl, Bool, true, false, ◌||◌, List, ◌++◌, ℕ, ◌≤◌, ◌<◌, ltb, eqb, length, take, drop}
-use Rattle.std.proofs.Common.{true≢false, sym, ap, ◌∙◌, lt-ltb, le-ltb}
+use Rattle.std.specs.Prelude.{◌≡◌, true, false, List, ◌++◌, ℕ, ◌≤◌, ◌<◌, length, take, drop}
+use Rattle.std.proofs.Common.{ap, ◌∙◌, lt-ltb, le-ltb}
 use Rattle.std.proofs.lemmas.List.{take-append-drop}
 use Rattle.checks.specs.Check.{any}
 use Rattle.plan.specs.Copy.{copy_capacity}
 use Rattle.strips.specs.Strip.{line_of}
 use Rattle.picture.specs.declared.types.Written.TheVariants as written
+use Rattle.picture.proofs.Accepted.{picture_is}
 use Rattle.picture.specs.Writer.{picture_of, copy_bytes, strip_rows, format_faults, size_faults, wrote, wrote_of}
 
 -- the buffer's first bytes put back where they were
 pub put_back : {o out : List ℕ} → o ≡ take 40 out → o ++ drop 40 out ≡ out
 put_back {o} {out} e = ap (λ (xs : List ℕ). xs ++ drop 40 out) e ∙ take-append-drop 40 out
-
-any_of_four : (a b c d e : Bool) → (a || (b || (c || (d || false)))) ≡ true → (a || (b || (c || (d || (e || false))))) ≡ true
-any_of_four true b c d e u = refl
-any_of_four false true c d e u = refl
-any_of_four false false true d e u = refl
-any_of_four false false false true e u = refl
-any_of_four false false false false e u = absurd (true≢false (sym u))
-
-fifth_alone : (a b c d e : Bool) → (a || (b || (c || (d || false)))) ≡ false → (a || (b || (c || (d || (e || false))))) ≡ e
-fifth_alone true b c d e u = absurd (true≢false u)
-fifth_alone false true c d e u = absurd (true≢false u)
-fifth_alone false false true d e u = absurd (true≢false u)
-fifth_alone false false false true e u = absurd (true≢false u)
-fifth_alone false false false false true u = refl
-fifth_alone false false false false false u = refl
 
 module _ (w h f z p : ℕ) (out : List ℕ) where
   pub left_short : length out < 40 → wrote written.Short out ≡ wrote_of w h f z p out
@@ -41,13 +27,13 @@ module _ (w h f z p : ℕ) (out : List ℕ) where
     module _ (t : any (format_faults f z) ≡ false) where
       pub left_size : any (size_faults w h) ≡ true → wrote written.Picture out ≡ wrote_of w h f z p out
       unfolding wrote_of
-      left_size u = rw (le-ltb (length out) 40 long, t, any_of_four (eqb w 0) (ltb 16383 w) (eqb h 0) (ltb 16383 h) (ltb (copy_capacity f z) (line_of z w)) u)
+      left_size u = rw (le-ltb (length out) 40 long, t, picture_is w h f z, u)
 
       module _ (u : any (size_faults w h) ≡ false) where
         pub left_line : copy_capacity f z < line_of z w → wrote written.Picture out ≡ wrote_of w h f z p out
         unfolding wrote_of
-        left_line k = rw (le-ltb (length out) 40 long, t, fifth_alone (eqb w 0) (ltb 16383 w) (eqb h 0) (ltb 16383 h) (ltb (copy_capacity f z) (line_of z w)) u, lt-ltb (copy_capacity f z) (line_of z w) k)
+        left_line k = rw (le-ltb (length out) 40 long, t, picture_is w h f z, u, lt-ltb (copy_capacity f z) (line_of z w) k)
 
         pub left_done : line_of z w ≤ copy_capacity f z → wrote written.Done (copy_bytes (picture_of w h f z p (strip_rows w f z)) ++ drop 40 out) ≡ wrote_of w h f z p out
         unfolding wrote_of
-        left_done k = rw (le-ltb (length out) 40 long, t, fifth_alone (eqb w 0) (ltb 16383 w) (eqb h 0) (ltb 16383 h) (ltb (copy_capacity f z) (line_of z w)) u, le-ltb (copy_capacity f z) (line_of z w) k)
+        left_done k = rw (le-ltb (length out) 40 long, t, picture_is w h f z, u, le-ltb (copy_capacity f z) (line_of z w) k)

@@ -1,2 +1,3 @@
--- A law of the passes that an edit of a pass would leave without its proof.
+-- Laws that an edit of a pass would leave without their proof, and of the verdict that a plan stops with.
 pub mod Fuel
+pub mod Stops
