@@ -29,8 +29,8 @@ extern "C" {
 
 #define VISOR_VERSION_MAJOR 0
 #define VISOR_VERSION_MINOR 7
-#define VISOR_VERSION_PATCH 0
-#define VISOR_VERSION_TEXT "0.7.0"
+#define VISOR_VERSION_PATCH 1
+#define VISOR_VERSION_TEXT "0.7.1"
 #define VISOR_VERSION (VISOR_VERSION_MAJOR * 65536 + VISOR_VERSION_MINOR * 256 + VISOR_VERSION_PATCH)
 
 uint64_t visor_version(void);
@@ -96,6 +96,8 @@ enum visor_size {
     VISOR_SIZE_LRT = 5
 };
 
+/* Of a finished copy plan the columns and rows of each load lie inside the image, and the tile's line times the rows fits texture
+   memory (7.13). The bytes that fill the last word of a row may lie past the row's end. */
 enum visor_load {
     VISOR_LOAD_INDEX = 1, /* 7 */
     VISOR_LOAD_ULS = 2,   /* quarters of a texel in the texture image, the ends inclusive */
@@ -112,7 +114,10 @@ enum visor_load {
 
 /* The corners of a rectangle are quarters of a pixel. Copy: the ends are inclusive, (lrx - ulx) / 4 + 1 pixels across and
    (lry - uly) / 4 + 1 lines down. Scaled: the ends are exclusive, (lrx - ulx) / 4 across, which may leave a part of a pixel,
-   and (lry - uly) / 4 lines down. */
+   and (lry - uly) / 4 lines down.
+
+   EVERY CELL ONCE. Of every finished copy plan it is proved that its rectangles meet each cell of the clipped frame, 4 by 4
+   quarters from the frame's left and upper edge on, exactly once, and meet nothing else (7.12): captions may be laid over it. */
 enum visor_rect {
     VISOR_RECT_TILE = 1, /* 0 */
     VISOR_RECT_ULX = 2,

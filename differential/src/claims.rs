@@ -1,6 +1,7 @@
 //! Sentences of docs/SPECIFICATION.md held against the recorded plans, and the lines of a scaled
 //! plan.
 
+use crate::cells;
 use crate::entry::{Entry, IMAGE, LOAD, RECTANGLE, SIZE, TILE};
 use crate::record::{Bank, Record, COPY, SCALED};
 use crate::run::{Answer, Settings};
@@ -199,7 +200,17 @@ impl Claims {
                 largest_load(entries) == answer.end.tile_words,
             );
         }
-        if record.opcode == COPY && answer.end.rectangles > 0 {
+        if record.opcode == COPY {
+            self.check_copy(number, record, answer);
+        }
+        if record.opcode == SCALED && answer.plan.notes.slices.is_some() {
+            self.check_scaled(number, record, answer);
+        }
+    }
+
+    fn check_copy(&mut self, number: usize, record: &Record, answer: &Answer) {
+        let entries = &answer.plan.entries;
+        if answer.end.rectangles > 0 {
             let holds = copy_rows_hold(entries);
             self.note(
                 "copy: image row is the load's upper bound / 4",
@@ -208,8 +219,19 @@ impl Claims {
                 holds,
             );
         }
-        if record.opcode == SCALED && answer.plan.notes.slices.is_some() {
-            self.check_scaled(number, record, answer);
+        if cells::finished_copy(record, answer) {
+            self.note(
+                "copy, finished: one rectangle meets each cell, and nothing else is covered",
+                number,
+                record,
+                cells::cells_once(record, entries).is_ok(),
+            );
+            self.note(
+                "copy, finished: each load is inside the image and fits the capacity",
+                number,
+                record,
+                cells::loads_inside(record, entries).is_ok(),
+            );
         }
     }
 
@@ -245,12 +267,7 @@ impl Claims {
                     .iter()
                     .all(|r| r.rem_euclid(image) <= i128::from(slices.stride)),
         );
-        self.note(
-            UNSAID,
-            number,
-            record,
-            rows.iter().all(|&r| r >= 0),
-        );
+        self.note(UNSAID, number, record, rows.iter().all(|&r| r >= 0));
         let yes = |b: bool| if b { "yes" } else { "no " };
         let name = format!(
             "drift: whole image rows {}, whole origin {}, at or below origin {}, R fits {}",

@@ -9,14 +9,17 @@
 //! random bank and is run into a buffer with room for all, into one that is too short by 0 to 11
 //! words and, now and then, into one of any length and one of no words. Then it is stepped to its
 //! end and beyond, with the planner of the record before it stepped in between; and its rectangles
-//! are measured into buffers of three lengths. One in four of those with a load comes again, with
-//! its image so near the last address that one of its loads ends there. Beside one in sixteen a copy
-//! object is written from a random picture, and its plans are compared as those of the records.
+//! are measured into buffers of three lengths. The cells of its frame are counted where it is a
+//! finished copy plan. One in four of those with a load comes again, with its image so near the last
+//! address that one of its loads ends there. Beside one in sixteen a copy object is written from a
+//! random picture, and its plans are compared as those of the records.
 
 #![allow(dead_code, unused_imports, unexpected_cfgs)]
 
+mod broken;
 mod case;
 mod cases;
+mod cells;
 mod diag;
 mod edges;
 mod entry;
@@ -41,6 +44,7 @@ pub use diag::{DiagKind, Diagnostic, MemoryAccess};
 pub use hle::mem::{MemoryError, MemoryErrorKind};
 
 use case::{without, Case};
+use cells::Count;
 use generate::Mode;
 use guarded::Buffers;
 use plan::{End, Sink, BRANCH_NAMES};
@@ -57,8 +61,8 @@ use std::time::Instant;
 use stepped::Planned;
 
 const BLOCK: u64 = 1_000;
-/// So many records show every place where a load is refused for its span, and all that is counted
-/// of pictures.
+/// So many records show every place where a load is refused for its span, all that is counted of
+/// pictures, and finished copy plans of every kind.
 const ALL_PLACES: u64 = 200_000;
 const MODES: [(&str, Mode); 8] = [
     ("mixed", Mode::Mixed),
@@ -100,6 +104,7 @@ struct Tally {
     apt: [u64; 2],
     nearest: [u64; 2],
     pictures: pictures::Counts,
+    cells: cells::Counts,
 }
 
 fn mode(record: &Record) -> usize {
@@ -138,8 +143,16 @@ impl Tally {
             self.apt[kind] += other.apt[kind];
             self.nearest[kind] += other.nearest[kind];
         }
-        let mine = self.spans.iter_mut().chain(&mut self.pictures);
-        let theirs = other.spans.iter().chain(&other.pictures);
+        let mine = self
+            .spans
+            .iter_mut()
+            .chain(&mut self.pictures)
+            .chain(&mut self.cells);
+        let theirs = other
+            .spans
+            .iter()
+            .chain(&other.pictures)
+            .chain(&other.cells);
         for (mine, theirs) in mine.zip(theirs) {
             *mine += theirs;
         }
@@ -150,6 +163,20 @@ impl Tally {
                 *a += b;
             }
         }
+    }
+
+    fn print_fixed(&self) {
+        println!(
+            "{} fixed records, {} runs, {} entries, {} steps, {} rectangles measured",
+            self.records, self.runs, self.entries, self.steps, self.measured
+        );
+        let counted = |count: Count| self.cells[count as usize];
+        println!(
+            "{} of them are finished copy plans, of {} cells and {} loads",
+            counted(Count::Plans),
+            counted(Count::Cells),
+            counted(Count::Loads)
+        );
     }
 
     fn print(&self) {
@@ -167,10 +194,7 @@ impl Tally {
              40 bytes of object; {} runs, {} entries, at most {} in a plan",
             self.records, self.moved, self.short_objects, self.runs, self.entries, self.most
         );
-        println!("loads refused for their span:");
-        for (name, plans) in spans::PLACES.iter().zip(self.spans) {
-            println!("{plans:>12}  {name}");
-        }
+        print_counts("loads refused for their span:", spans::PLACES, &self.spans);
         println!(
             "{} planners stepped to their ends, {} steps, {} of them beyond the end; \
              {} steps of second planners",
@@ -184,10 +208,16 @@ impl Tally {
                 self.apt[kind], self.nearest[kind]
             );
         }
-        println!("copy objects of pictures:");
-        for (name, number) in pictures::COUNTED.iter().zip(self.pictures) {
-            println!("{number:>12}  {name}");
-        }
+        let (pictures, cells) = (pictures::COUNTED, cells::COUNTED.map(|(name, _)| name));
+        print_counts("copy objects of pictures:", pictures, &self.pictures);
+        print_counts("finished copy plans:", cells, &self.cells);
+    }
+}
+
+fn print_counts<const N: usize>(title: &str, names: [&str; N], numbers: &[u64; N]) {
+    println!("{title}");
+    for (name, number) in names.iter().zip(numbers) {
+        println!("{number:>12}  {name}");
     }
 }
 
@@ -248,6 +278,7 @@ fn compare(
     if let Some(text) = unexpected(&whole) {
         return Err(text);
     }
+    cells::counted(&case.record, &whole, &mut tally.cells)?;
     tally.records += 1;
     tally.short_objects += u64::from(case.object.len() < OBJECT_BYTES);
     let mut random = Random(case.draw);
@@ -640,13 +671,16 @@ fn compare_all(records: u64, seed: u64, threads: usize) -> (Tally, Option<(u64, 
 /// What so many records should have shown and did not.
 fn unmet(tally: &Tally, records: u64) -> Option<String> {
     let spans = spans::PLACES.iter().zip(tally.spans);
-    let spans = spans.map(|counted| ("no load was refused for its span here", counted));
+    let spans = spans.map(|(name, n)| ("no load was refused for its span here", name, n, 1));
     let pictures = pictures::COUNTED.iter().zip(tally.pictures);
-    let pictures = pictures.map(|counted| ("no object of a picture", counted));
+    let pictures = pictures.map(|(name, n)| ("no object of a picture", name, n, 1));
+    let cells = cells::COUNTED.iter().zip(tally.cells);
+    let cells = cells.map(|((name, least), n)| ("too few of finished copy plans", name, n, *least));
     let unmet: String = spans
         .chain(pictures)
-        .filter(|&(_, (_, number))| number == 0)
-        .map(|(what, (name, _))| format!("{what}: {name}\n"))
+        .chain(cells)
+        .filter(|&(_, _, number, least)| number < least)
+        .map(|(what, name, number, _)| format!("{what}: {name}, {number}\n"))
         .collect();
     (records >= ALL_PLACES && !unmet.is_empty()).then_some(unmet)
 }
@@ -718,7 +752,8 @@ fn main() {
     let seed = arguments.get(1).map_or(1, |n| number(n));
     let threads = arguments.get(2).map_or(2, |n| number(n) as usize).max(1);
     let refused = refused_lengths().or_else(|| stepped::refused_calls().err());
-    if let Some(text) = refused.or_else(|| measured::refused_calls().err()) {
+    let refused = refused.or_else(|| measured::refused_calls().err());
+    if let Some(text) = refused.or_else(|| broken::found().err()) {
         finish(Some(text));
     }
     let names: Vec<&str> = MODES.iter().map(|(name, _)| *name).collect();
@@ -728,10 +763,7 @@ fn main() {
     if let Some(text) = compare_fixed(&mut fixed) {
         finish(Some(text));
     }
-    println!(
-        "{} fixed records, {} runs, {} entries, {} steps, {} rectangles measured",
-        fixed.records, fixed.runs, fixed.entries, fixed.steps, fixed.measured
-    );
+    fixed.print_fixed();
     let (tally, found) = compare_all(records, seed, threads);
     tally.print();
     if let Some((n, text)) = found {

@@ -3,6 +3,7 @@
 #![allow(dead_code, unused_imports, unexpected_cfgs)]
 
 mod cases;
+mod cells;
 mod claims;
 mod coverage;
 mod diag;

@@ -10,13 +10,13 @@ use crate::random::Random;
 use crate::record::{Object, Record, COPY, OBJECT_BYTES};
 use crate::run::Answer;
 use crate::stepped::Planned;
-use crate::{compare, describe, entry, explain, generate, hex, proved, Tally};
+use crate::{cells, compare, describe, entry, explain, generate, hex, proved, Tally};
 
 /// One picture comes with so many records.
 pub const EVERY: u64 = 16;
 
 /// What is counted; a long run shows each of these.
-pub const COUNTED: [&str; 12] = [
+pub const COUNTED: [&str; 13] = [
     "tried",
     "refused by 2: a buffer under 40 bytes",
     "refused by 4: fmt above 4 or siz above 3",
@@ -29,6 +29,7 @@ pub const COUNTED: [&str; 12] = [
     "rectangles of these choices",
     "plans with one strip row more, all refused by 7",
     "entries of all these plans",
+    "finished ones of all these plans, whose cells and loads are counted",
 ];
 pub type Counts = [u64; COUNTED.len()];
 
@@ -47,6 +48,7 @@ enum Count {
     LaterRectangles,
     RowMore,
     Entries,
+    Finished,
 }
 
 /// The longest side, in texels: four times as many units still fit 16 bits.
@@ -346,7 +348,8 @@ impl Plans<'_> {
             ..record
         };
         let case = Case::drawn(self.random, record);
-        let answer = compare(&case, self.beside, self.buffers, &mut Tally::default());
+        let mut tally = Tally::default();
+        let answer = compare(&case, self.beside, self.buffers, &mut tally);
         let answer = answer.map_err(|text| explain(&case, self.beside, &text))?;
         if !should(&answer) {
             let (what, end, object) = (COUNTED[count as usize], answer.end, answer.object);
@@ -355,6 +358,7 @@ impl Plans<'_> {
         }
         self.counts[count as usize] += 1;
         self.counts[Count::Entries as usize] += answer.end.entries;
+        self.counts[Count::Finished as usize] += tally.cells[cells::Count::Plans as usize];
         Ok(answer.end)
     }
 

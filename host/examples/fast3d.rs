@@ -124,6 +124,7 @@ fn diagnostic(verdict: Verdict, opcode: u8) -> DiagKind {
     }
 }
 
+/// Where it is `Ok`, each cell of the clipped frame is drawn once and nothing else is.
 pub(crate) fn bg_copy(
     object: &[u8],
     scissor: Scissor,

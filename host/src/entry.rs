@@ -77,6 +77,9 @@ pub struct Size {
 
 /// A load: the tile's bounds first, as [`Size`] sets them, then `rows` rows of `words` words of 8
 /// bytes, `stride` bytes apart, from `start`; `length` bytes in all.
+///
+/// In a finished copied plan the columns and rows from `uls` to `lrs` and from `ult` to `lrt` lie
+/// inside the image; what fills a row's last word may lie past the row's end.
 #[derive(Clone, Copy, Debug, PartialEq, Eq, Hash)]
 pub struct Load {
     /// The tile: plans load tile 7.
@@ -104,7 +107,8 @@ pub struct Load {
 /// A textured rectangle, drawn with the tiles as they stand after the entries before it.
 ///
 /// Its corners are quarters of a pixel. The ends are inclusive in a copied plan and exclusive in a
-/// scaled one; [`pixels`](Rect::pixels) hides that.
+/// scaled one; [`pixels`](Rect::pixels) hides that. The rectangles of a finished copied plan meet
+/// each cell of the clipped frame once, and nothing else.
 #[derive(Clone, Copy, Debug, PartialEq, Eq, Hash)]
 pub struct Rect {
     /// Whose plan it is of, which says what the ends mean.

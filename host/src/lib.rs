@@ -87,6 +87,36 @@
 //! that nobody has to work out the fields of texture memory. Frame, start and flip may be changed
 //! afterwards.
 //!
+//! # What a finished copied plan draws and loads
+//!
+//! Of every copied plan that ends with [`Verdict::Finished`] this is proved. Its rectangles meet each
+//! cell of the clipped frame exactly once and meet nothing else, so that a host may lay captions of
+//! its own over it. Cells are as large as pixels and are counted from the clipped frame's left and
+//! upper edge: where that lies inside a pixel, so do they. Each load's columns and rows lie inside the
+//! image, and its tile's line times its rows fits texture memory. So whoever reads texels needs the
+//! image's own rows, and the bytes that fill the last word of a row: these may lie past the row's
+//! end, and nothing is claimed of them. Rows of an odd number of 4-bit texels lie half a byte less
+//! apart than they are long, so that the last texel of the last one is in the byte after all rows.
+//!
+//! ```
+//! use visorlongan::{copy_object, Entry, Planner, Request, Scissor};
+//!
+//! let object = copy_object(320, 240, 0, 2, 0x0600_0000)?;
+//! let request = Request::copy(&object, Scissor::new(8, 8, 312, 232), 0x8020_0000);
+//!
+//! // How many rectangles meet a pixel of the screen.
+//! let meet = |x, y| {
+//!     let meets = |entry: &Entry| match entry {
+//!         Entry::Rect(rect) => rect.pixels().x.contains(&x) && rect.pixels().y.contains(&y),
+//!         _ => false,
+//!     };
+//!     Planner::new(&request).filter(meets).count()
+//! };
+//! assert_eq!([meet(8, 8), meet(160, 120), meet(311, 231)], [1, 1, 1]);
+//! assert_eq!([meet(7, 120), meet(160, 232)], [0, 0]);
+//! # Ok::<(), Box<dyn std::error::Error>>(())
+//! ```
+//!
 //! # Without an allocator
 //!
 //! The crate needs no `std`. [`Buffer`], which owns its memory, is behind the feature `alloc`, which

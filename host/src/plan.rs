@@ -35,7 +35,8 @@ pub fn count(request: &Request) -> End {
     End::from_words(ffi::count(request.object, &request.words()))
 }
 
-/// A plan: the entries in order, and the end.
+/// A plan: the entries in order, and the end. What is proved of a finished copied plan is said
+/// [with the crate](crate#what-a-finished-copied-plan-draws-and-loads).
 #[derive(Clone, Copy, Debug)]
 #[must_use = "the plan says whether the request was refused"]
 pub struct Plan<'a> {

@@ -1,5 +1,6 @@
 //! Plans by their pixels: the example's loop draws them on a small machine, and each pixel shows the
-//! texel that the copy rule says, or a row within the limits on drift.
+//! texel that the copy rule says, or a row within the limits on drift. Copy plans also by their
+//! entries alone: each cell of the clipped frame is met once, and loads lie inside the image.
 
 #[allow(dead_code)]
 #[path = "../examples/fast3d.rs"]
@@ -9,8 +10,10 @@ mod random;
 use fast3d::machine::Machine;
 use fast3d::{bg_1cyc, bg_copy, Ctx};
 use random::Random;
+use std::ops::Range;
 use visorlongan::{
-    Bank, Buffer, Entry, Kind, Load, Mode, Object, Quarters, Rect, Request, Scissor, Verdict,
+    Bank, Buffer, Entry, Kind, Load, Mode, Object, Quarters, Rect, Request, Scissor, SetTile,
+    Verdict,
 };
 
 const ADDRESS: u64 = 1 << 20;
@@ -37,16 +40,13 @@ fn texel(columns: u64, siz: u8, column: u64, row: u64) -> u64 {
 
 // ---- copied plans
 
-/// The clipped frame in quarters of a pixel: left, top, and cells across and down.
-fn clipped(object: &Object, s: Scissor) -> [i64; 4] {
-    let reach = |from: i32, length: i32, low: i32, high: i32| {
-        let first = from.max(low * 4);
-        let end = (from + length).min(high * 4);
-        [first.into(), i64::from((end - first) / 4).max(0)]
-    };
-    let [left, width] = reach(object.frame_x.0, object.frame_w.0, s.ulx, s.lrx);
-    let [top, height] = reach(object.frame_y.0, object.frame_h.0, s.uly, s.lry);
-    [left, top, width, height]
+/// The words of texture memory that one load may fill.
+fn capacity(fmt: u8, siz: u8) -> i64 {
+    if fmt == 2 || siz == 3 {
+        256
+    } else {
+        512
+    }
 }
 
 /// The image's column and row that a cell of the clipped frame shows, by the copy rule.
@@ -67,8 +67,9 @@ fn copy_rule(object: &Object, [left, top, ..]: [i64; 4], cell: i64, line: i64) -
 
 /// Pixels of the clipped frame that are not drawn once and by the rule, and pixels drawn elsewhere.
 /// What stands of a plan that was refused may leave cells out.
-fn copy_faults(machine: &Machine, object: &Object, scissor: Scissor, whole: bool) -> usize {
-    let frame @ [left, top, width, height] = clipped(object, scissor);
+fn copy_faults(machine: &Machine, copied: &Copied) -> usize {
+    let frame @ [left, top, width, height] = copied.frame();
+    let object = &copied.object;
     let columns = object.image_w.whole() as u64;
     let fault = |(x, y, pixel): (i32, i32, fast3d::machine::Pixel)| {
         let (cell, line) = (
@@ -79,7 +80,7 @@ fn copy_faults(machine: &Machine, object: &Object, scissor: Scissor, whole: bool
             return pixel.drawn > 0;
         }
         if pixel.drawn == 0 {
-            return whole;
+            return copied.finished;
         }
         let (column, row) = copy_rule(object, frame, cell, line);
         let shown = texel(columns, object.image_siz, column, row);
@@ -88,18 +89,26 @@ fn copy_faults(machine: &Machine, object: &Object, scissor: Scissor, whole: bool
     machine.outside + machine.pixels().filter(|&p| fault(p)).count()
 }
 
+/// The texels of a row that one word of a tile's line has room for.
+fn per_word(siz: u8) -> i64 {
+    if siz == 3 {
+        4
+    } else {
+        16 >> siz
+    }
+}
+
 /// An object whose strips mostly fit texture memory; one in fifty is as wide as the screen.
 fn random_copy(r: &mut Random) -> ([u8; 40], Scissor) {
     let wide = r.once_in(50);
     let (fmt, siz) = (r.from(0, 4), if wide { 0 } else { r.from(0, 3) });
+    let (fmt, siz) = (fmt as u8, siz as u8);
     let columns = if wide {
         r.from(900, 1_100)
     } else {
         r.from(1, 200)
     };
-    let capacity = if fmt == 2 || siz == 3 { 256 } else { 512 };
-    let per_word = if siz == 3 { 4 } else { 16 >> siz };
-    let fits = (capacity / (columns / per_word + 2)).max(1);
+    let fits = (capacity(fmt, siz) / (columns / per_word(siz) + 2)).max(1);
     let rows = if r.once_in(6) {
         r.from(1, 200)
     } else {
@@ -132,15 +141,100 @@ fn random_copy(r: &mut Random) -> ([u8; 40], Scissor) {
     let right = if wide { 1_023 } else { r.from(20, 160) };
     let [ulx, uly, lrx, lry] = [r.from(0, 10), r.from(0, 10), right, r.from(10, 120)];
     let scissor = Scissor::new(ulx as i32, uly as i32, lrx as i32, lry as i32);
-    (object(&fields, fmt as u8, siz as u8), scissor)
+    (object(&fields, fmt, siz), scissor)
 }
 
-/// A flipped load of more than 1,024 columns has its first texel cut to 16 bits, as in the original
-/// (docs/DIFFERENCES.md): what it shows is not the rule's.
-fn too_wide(object: &Object, entries: impl Iterator<Item = Entry>) -> bool {
-    let columns = |load: Load| load.lrs / 4 - load.uls / 4 + 1;
-    let wide = |entry| matches!(entry, Entry::Load(load) if columns(load) > 1_024);
-    object.image_flip == 1 && entries.into_iter().any(wide)
+/// What is rare among those: strips that fill texture memory, or flipped ones of more than 1,024
+/// columns.
+fn rare_copy(r: &mut Random) -> ([u8; 40], Scissor) {
+    let wide = r.once_in(2);
+    let (fmt, siz) = (r.from(0, 4), if wide { 0 } else { r.from(0, 3) });
+    let (fmt, siz) = (fmt as u8, siz as u8);
+    let line = if wide { 66 } else { 16 << r.from(0, 2) };
+    let rows = capacity(fmt, siz) / line;
+    let fields = [
+        (0, r.from(0, 1_100)),
+        (2, 4 * line * per_word(siz)),
+        (4, r.from(-8, 8)),
+        (6, 4_092),
+        (8, r.from(0, 8_000)),
+        (10, 8 * rows),
+        (14, 240),
+        (20, 0xfff4),
+        (26, if wide { 1 } else { r.from(0, 1) }),
+        (30, 4 * rows),
+        (32, 4 * rows),
+        (36, 1),
+    ];
+    (object(&fields, fmt, siz), Scissor::new(0, 0, 1_023, 60))
+}
+
+/// A copied background with its plan, which is finished or has a strip that is too big.
+struct Copied {
+    bytes: [u8; 40],
+    scissor: Scissor,
+    object: Object,
+    entries: Vec<Entry>,
+    finished: bool,
+}
+
+impl Copied {
+    fn of((bytes, scissor): ([u8; 40], Scissor)) -> Copied {
+        let mut buffer = Buffer::new();
+        let request = Request::copy(&bytes, scissor, ADDRESS);
+        let plan = buffer.plan(&request, &mut Bank::default());
+        Copied {
+            bytes,
+            scissor,
+            object: decoded(&bytes, Mode::Copy),
+            entries: plan.entries().collect(),
+            finished: match plan.end.verdict {
+                Verdict::Finished => true,
+                Verdict::TooBig => false,
+                other => panic!("{other:?} of {bytes:?}"),
+            },
+        }
+    }
+
+    /// The clipped frame: its left and top in quarters of a pixel, and its cells across and down.
+    fn frame(&self) -> [i64; 4] {
+        let (object, s) = (&self.object, self.scissor);
+        let reach = |from: i32, length: i32, low: i32, high: i32| {
+            let first = from.max(low * 4);
+            let end = (from + length).min(high * 4);
+            [first.into(), i64::from((end - first) / 4).max(0)]
+        };
+        let [left, width] = reach(object.frame_x.0, object.frame_w.0, s.ulx, s.lrx);
+        let [top, height] = reach(object.frame_y.0, object.frame_h.0, s.uly, s.lry);
+        [left, top, width, height]
+    }
+
+    fn rects(&self) -> impl Iterator<Item = Rect> + '_ {
+        self.entries.iter().filter_map(|entry| match entry {
+            Entry::Rect(rect) => Some(*rect),
+            _ => None,
+        })
+    }
+
+    /// The loads, each with the line that the entries before it have given its tile.
+    fn loads(&self) -> impl Iterator<Item = (Load, u16)> + '_ {
+        let mut lines = [0; 8];
+        self.entries.iter().filter_map(move |entry| match entry {
+            Entry::Tile(tile) => {
+                lines[usize::from(tile.index)] = tile.line;
+                None
+            }
+            Entry::Load(load) => Some((*load, lines[usize::from(load.index)])),
+            _ => None,
+        })
+    }
+
+    /// A flipped load of more than 1,024 columns has its first texel cut to 16 bits, as in the
+    /// original (docs/DIFFERENCES.md): what it shows is not the rule's.
+    fn too_wide(&self) -> bool {
+        let wide = |(load, _): (Load, u16)| load.lrs / 4 - load.uls / 4 + 1 > 1_024;
+        self.object.image_flip == 1 && self.loads().any(wide)
+    }
 }
 
 #[test]
@@ -149,25 +243,19 @@ fn copied_pixels_are_the_rule_s() {
     let (mut finished, mut stopped, mut wide, mut drawn) = (0, 0, 0, 0);
     let mut kinds = [[0; 4]; 5];
     while finished < 4_000 {
-        let (bytes, scissor) = random_copy(&mut r);
-        let object = decoded(&bytes, Mode::Copy);
-        let request = Request::copy(&bytes, scissor, ADDRESS);
-        let mut buffer = Buffer::new();
-        let plan = buffer.plan(&request, &mut Bank::default());
-        if too_wide(&object, plan.entries()) {
+        let copied = Copied::of(random_copy(&mut r));
+        if copied.too_wide() {
             wide += 1;
             continue;
         }
-        let whole = match plan.end.verdict {
-            Verdict::Finished => true,
-            Verdict::TooBig => false,
-            other => panic!("{other:?} of {bytes:?}"),
-        };
+        let (bytes, scissor) = (&copied.bytes, copied.scissor);
         let mut cx = Ctx::new(1_024, 128);
-        assert_eq!(bg_copy(&bytes, scissor, ADDRESS, &mut cx).is_ok(), whole);
-        let faults = copy_faults(&cx.rdp, &object, scissor, whole);
+        let whole = bg_copy(bytes, scissor, ADDRESS, &mut cx).is_ok();
+        assert_eq!(whole, copied.finished);
+        let faults = copy_faults(&cx.rdp, &copied);
         assert_eq!(faults, 0, "{bytes:?} {scissor:?}");
         drawn += cx.rdp.pixels().filter(|(.., p)| p.drawn > 0).count();
+        let object = copied.object;
         kinds[usize::from(object.image_fmt)][usize::from(object.image_siz)] += 1;
         finished += usize::from(whole);
         stopped += usize::from(!whole);
@@ -178,6 +266,319 @@ fn copied_pixels_are_the_rule_s() {
         stopped > 30 && wide > 0 && drawn > 4_000_000,
         "{stopped} {wide} {drawn}"
     );
+}
+
+// ---- copied plans by their entries
+
+/// How many rectangles meet each cell of a clipped frame, and how many cover each of its unit
+/// squares, which are a quarter wide and high.
+struct Met {
+    frame: [i64; 4],
+    cells: Vec<u32>,
+    squares: Vec<u32>,
+    /// The unit squares that are covered outside the frame.
+    elsewhere: i64,
+}
+
+impl Met {
+    fn of(frame: [i64; 4], rects: impl Iterator<Item = Rect>) -> Met {
+        let area = (frame[2] * frame[3]) as usize;
+        let mut met = Met {
+            frame,
+            cells: vec![0; area],
+            squares: vec![0; 16 * area],
+            elsewhere: 0,
+        };
+        rects.for_each(|rect| met.add(&rect));
+        met
+    }
+
+    /// The ends of a rectangle are inclusive and name cells: it covers four quarters from there on.
+    fn add(&mut self, rect: &Rect) {
+        let [left, top, width, height] = self.frame;
+        let covered = |first: i32, last: i32, edge: i64| {
+            let first = i64::from(first) - edge;
+            first..(i64::from(last) + 4 - edge).max(first)
+        };
+        let within = |all: &Range<i64>, cells: i64| {
+            all.start.clamp(0, 4 * cells)..all.end.clamp(0, 4 * cells)
+        };
+        let area = |x: &Range<i64>, y: &Range<i64>| (x.end - x.start) * (y.end - y.start);
+        let across = covered(rect.ulx, rect.lrx, left);
+        let down = covered(rect.uly, rect.lry, top);
+        let (x, y) = (within(&across, width), within(&down, height));
+        self.elsewhere += area(&across, &down) - area(&x, &y);
+        // A cell is met by whatever covers a square of it, and counted with the first of them.
+        let begins = |n: i64, range: &Range<i64>| n % 4 == 0 || n == range.start;
+        for line in y.clone() {
+            for column in x.clone() {
+                self.squares[(line * 4 * width + column) as usize] += 1;
+                if begins(line, &y) && begins(column, &x) {
+                    self.cells[(line / 4 * width + column / 4) as usize] += 1;
+                }
+            }
+        }
+    }
+
+    /// What is not as it should be, in words: the first cell that is not met by one rectangle, the
+    /// first unit square that is not covered once, or what is covered elsewhere.
+    fn fault(&self) -> Option<String> {
+        let [.., width, height] = self.frame;
+        let first = |counts: &[u32], across: i64| {
+            let (n, count) = counts.iter().enumerate().find(|(_, n)| **n != 1)?;
+            Some((n as i64 % across, n as i64 / across, *count))
+        };
+        let cell = first(&self.cells, width).map(|(x, y, count)| {
+            format!("cell ({x}, {y}) of {width} by {height} is met by {count} rectangles")
+        });
+        let square = || {
+            let (x, y, count) = first(&self.squares, 4 * width)?;
+            Some(format!("unit square ({x}, {y}) is covered {count} times"))
+        };
+        let elsewhere = || {
+            let count = self.elsewhere;
+            (count > 0).then(|| format!("{count} unit squares outside the frame are covered"))
+        };
+        cell.or_else(square).or_else(elsewhere)
+    }
+}
+
+/// What is wrong with a load, in words: its columns and rows lie inside the image, and its tile's
+/// line times its rows fits texture memory.
+fn load_fault(object: &Object, load: &Load, line: u16) -> Option<String> {
+    let outside = |what: &str, first: u16, last: u16, count: i32| {
+        let (first, last) = (first / 4, last / 4);
+        let inside = first <= last && i32::from(last) < count;
+        (!inside).then(|| format!("{what} {first} to {last} are loaded, of {count}"))
+    };
+    let rows = i64::from(load.lrt / 4) - i64::from(load.ult / 4) + 1;
+    let (words, most) = (
+        rows * i64::from(line),
+        capacity(object.image_fmt, object.image_siz),
+    );
+    outside("columns", load.uls, load.lrs, object.image_w.whole())
+        .or_else(|| outside("rows", load.ult, load.lrt, object.image_h.whole()))
+        .or_else(|| (words > most).then(|| format!("a load fills {words} of {most} words")))
+}
+
+impl Copied {
+    /// What a finished plan does not keep of the promise that each cell of the clipped frame is
+    /// drawn once, nothing else is, and nothing but the image is loaded.
+    fn fault(&self) -> Option<String> {
+        self.loads()
+            .find_map(|(load, line)| load_fault(&self.object, &load, line))
+            .or_else(|| Met::of(self.frame(), self.rects()).fault())
+    }
+
+    /// Whether a load fills the whole capacity.
+    fn is_full(&self) -> bool {
+        let most = capacity(self.object.image_fmt, self.object.image_siz);
+        self.loads()
+            .any(|(load, line)| load.rows as i64 * i64::from(line) == most)
+    }
+}
+
+/// A kind of plan, and how it is told.
+type Sort = (&'static str, fn(&Copied) -> bool);
+
+/// Plans that must occur among those judged.
+const OCCUR: [Sort; 8] = [
+    ("begin inside a pixel across", |c| {
+        c.rects().any(|rect| rect.ulx % 4 != 0)
+    }),
+    ("begin inside a pixel down", |c| {
+        c.rects().any(|rect| rect.uly % 4 != 0)
+    }),
+    ("have an empty frame", |c| c.frame()[2] * c.frame()[3] == 0),
+    ("are flipped", |c| {
+        c.object.image_flip == 1 && c.rects().next().is_some()
+    }),
+    ("wrap across", |c| {
+        c.rects().any(|rect| i64::from(rect.ulx) > c.frame()[0])
+    }),
+    ("wrap down", |c| {
+        let next = c.rects().skip(1);
+        c.rects().zip(next).any(|(a, b)| b.row < a.row)
+    }),
+    ("have a load of the whole capacity", Copied::is_full),
+    (
+        "have a flipped load of more than 1,024 columns",
+        Copied::too_wide,
+    ),
+];
+
+#[test]
+fn every_cell_is_met_once() {
+    let mut r = Random(1);
+    let (mut plans, mut cells, mut loads) = (0, 0, 0);
+    let mut occurred = [0; OCCUR.len()];
+    while plans < 4_000 {
+        let rare = r.once_in(40);
+        let copied = Copied::of(if rare {
+            rare_copy(&mut r)
+        } else {
+            random_copy(&mut r)
+        });
+        if !copied.finished {
+            continue;
+        }
+        if let Some(fault) = copied.fault() {
+            panic!("{fault}: {:?} {:?}", copied.bytes, copied.scissor);
+        }
+        for (count, (_, told)) in occurred.iter_mut().zip(OCCUR) {
+            *count += usize::from(told(&copied));
+        }
+        let [.., width, height] = copied.frame();
+        (plans, cells) = (plans + 1, cells + width * height);
+        loads += copied.loads().count();
+    }
+    println!("{plans} finished copy plans, {cells} cells, {loads} loads");
+    for (count, (kind, _)) in occurred.iter().zip(OCCUR) {
+        println!("{count} of them {kind}");
+        assert!(*count > 20, "{count} {kind}");
+    }
+}
+
+/// 20 by 6 cells that begin inside a pixel, of an image of 16 by 4 texels that wraps both ways: two
+/// rectangles beside each other, three times.
+fn six_rectangles() -> Copied {
+    let image = [(0, 12 * 32), (2, 64), (10, 16), (20, 0xfff4)];
+    let frame = [(4, 2), (6, 80), (14, 24)];
+    let memory = [(30, 8), (32, 8), (36, 1)];
+    let fields = [&image[..], &frame, &memory].concat();
+    Copied::of((object(&fields, 0, 2), Scissor::new(0, 0, 320, 240)))
+}
+
+/// The rectangle, the load or the tile that a strip of a copy plan has, from strip 0: behind the
+/// texture image five entries each.
+fn rect(entries: &mut [Entry], strip: usize) -> &mut Rect {
+    match &mut entries[5 * strip + 5] {
+        Entry::Rect(rect) => rect,
+        other => panic!("{other:?}"),
+    }
+}
+
+fn load(entries: &mut [Entry], strip: usize) -> &mut Load {
+    match &mut entries[5 * strip + 4] {
+        Entry::Load(load) => load,
+        other => panic!("{other:?}"),
+    }
+}
+
+fn loaded_tile(entries: &mut [Entry], strip: usize) -> &mut SetTile {
+    match &mut entries[5 * strip + 1] {
+        Entry::Tile(tile) => tile,
+        other => panic!("{other:?}"),
+    }
+}
+
+type Edit = fn(&mut Vec<Entry>);
+
+/// Rectangles that are not as they should be, and what is said of each.
+const WRONG_RECTS: [(Edit, &str); 11] = [
+    // Wider by a cell, and by a quarter.
+    (
+        |e| rect(e, 0).lrx += 4,
+        "cell (4, 0) of 20 by 6 is met by 2 rectangles",
+    ),
+    (
+        |e| rect(e, 4).lrx += 1,
+        "cell (4, 4) of 20 by 6 is met by 2 rectangles",
+    ),
+    // Wider, higher and lower than the frame.
+    (
+        |e| rect(e, 3).lrx += 1,
+        "8 unit squares outside the frame are covered",
+    ),
+    (
+        |e| rect(e, 0).uly -= 4,
+        "64 unit squares outside the frame are covered",
+    ),
+    (
+        |e| rect(e, 5).lry += 4,
+        "256 unit squares outside the frame are covered",
+    ),
+    // Narrower by a quarter, so that its cells are met but not covered.
+    (
+        |e| rect(e, 1).lrx -= 1,
+        "unit square (79, 0) is covered 0 times",
+    ),
+    // Left out, and given twice.
+    (
+        |e| e.truncate(30),
+        "cell (4, 4) of 20 by 6 is met by 0 rectangles",
+    ),
+    (
+        |e| e.extend_from_within(30..),
+        "cell (4, 4) of 20 by 6 is met by 2 rectangles",
+    ),
+    // Shifted by a quarter.
+    (
+        |e| {
+            rect(e, 2).ulx += 1;
+            rect(e, 2).lrx += 1;
+        },
+        "cell (4, 2) of 20 by 6 is met by 2 rectangles",
+    ),
+    // Two that meet in the middle of a cell.
+    (
+        |e| {
+            rect(e, 0).lrx += 2;
+            rect(e, 1).ulx += 2;
+        },
+        "cell (4, 0) of 20 by 6 is met by 2 rectangles",
+    ),
+    // Ends that are exclusive, as those of scaled plans.
+    (
+        |e| {
+            for strip in 0..6 {
+                rect(e, strip).lrx += 4;
+                rect(e, strip).lry += 4;
+            }
+        },
+        "cell (4, 0) of 20 by 6 is met by 2 rectangles",
+    ),
+];
+
+/// Loads likewise.
+const WRONG_LOADS: [(Edit, &str); 6] = [
+    // A column and a row too far, and the first ones behind the last.
+    (
+        |e| load(e, 0).lrs += 4,
+        "columns 12 to 16 are loaded, of 16",
+    ),
+    (|e| load(e, 2).lrt += 4, "rows 2 to 4 are loaded, of 4"),
+    (
+        |e| load(e, 0).lrs = 44,
+        "columns 12 to 11 are loaded, of 16",
+    ),
+    (|e| load(e, 3).ult = 16, "rows 4 to 3 are loaded, of 4"),
+    // Rows of a word too many, and a row too many of such that fill texture memory.
+    (
+        |e| loaded_tile(e, 5).line = 257,
+        "a load fills 514 of 512 words",
+    ),
+    (
+        |e| {
+            loaded_tile(e, 4).line = 256;
+            load(e, 4).lrt += 4;
+        },
+        "a load fills 768 of 512 words",
+    ),
+];
+
+#[test]
+fn what_is_wrong_with_a_plan_is_told() {
+    assert_eq!(six_rectangles().fault(), None);
+    for (edit, told) in WRONG_RECTS.into_iter().chain(WRONG_LOADS) {
+        let mut copied = six_rectangles();
+        edit(&mut copied.entries);
+        assert_eq!(copied.fault().as_deref(), Some(told));
+    }
+    // A whole load of texture memory is none too many.
+    let mut copied = six_rectangles();
+    loaded_tile(&mut copied.entries, 0).line = 256;
+    assert_eq!((copied.fault(), copied.is_full()), (None, true));
 }
 
 // ---- scaled plans

@@ -250,6 +250,11 @@ fn refused_plans_show_what_stands() {
         words.contains("It stopped in strip 27, whose first pixel would be 0, 156"),
         "{words}"
     );
+    let stand = "26 rectangles stand and meet 49,920 of 76,800 pixels of the clipped frame.";
+    assert!(
+        words.contains(stand) && !words.contains("proved"),
+        "{words}"
+    );
     let sheet = pixels(&std::fs::read(folder.join("nine.png")).unwrap());
     let (red, pale) = (Rgb(179, 38, 30), Rgb(251, 227, 225));
     assert!(
@@ -343,7 +348,10 @@ fn edges_of_the_image_are_marked() {
         "{words}"
     );
     assert!(
-        words.contains("76 rectangles meet every pixel of the clipped frame once."),
+        words.contains(
+            "76 rectangles meet every pixel of the clipped frame once and no other, as is proved \
+             of every finished copy plan."
+        ),
         "{words}"
     );
     let sheet = pixels(&std::fs::read(folder.join("sheet.png")).unwrap());
@@ -356,6 +364,61 @@ fn edges_of_the_image_are_marked() {
         close(at(&sheet, (SCREEN.0 + 40.2 * UNIT, line(180.0))), magenta),
         "row 239 → 0"
     );
+}
+
+/// A frame that begins inside a pixel has cells that are no pixels: what is said is said of cells.
+/// Of a scaled plan nothing of it is said.
+#[test]
+fn cells_that_are_no_pixels_are_told() {
+    let folder = folder("cells");
+    let fields = [(2, 1280), (6, 1280), (10, 960), (14, 960)];
+    let memory = [(4, 2), (12, 1), (30, 24), (32, 24), (36, 1)];
+    let inside = [&fields[..], &memory].concat();
+    let scaled = [&fields[..], &[(4, 2), (28, 1024), (30, 1024)]].concat();
+    let screen = [0, 0, 320, 240];
+    let words = |copy: bool, fields: &[(usize, i64)]| {
+        let bytes = record(copy, fields, 0, 2, screen);
+        std::fs::write(folder.join("inside.bin"), bytes).unwrap();
+        said(&visor(&["draw", "inside.bin", "-o", "sheet.svg"], &folder))
+    };
+    let copied = words(true, &inside);
+    for sentence in [
+        "40 rectangles meet every cell of the clipped frame once and no other, as is proved",
+        "The columns and rows of every load lie inside the image, as is proved too;",
+        "begins inside a pixel, at (0.5, 0.25): each cell of it is shown in the pixel in which",
+    ] {
+        assert!(copied.contains(sentence), "{copied}");
+    }
+    let scaled = words(false, &scaled);
+    assert!(
+        !scaled.contains("clipped frame") && !scaled.contains("every load"),
+        "{scaled}"
+    );
+}
+
+/// A copy that shows bytes outside the image says why: its loads lie inside.
+#[test]
+fn bytes_outside_the_image_have_their_reason() {
+    let folder = folder("outside");
+    let memory = [(30, 4), (32, 4), (36, 1)];
+    let halves = [(2, 60), (6, 400), (10, 12), (14, 100)];
+    let wide = [(0, 64), (2, 4160), (6, 4092), (10, 4), (14, 4), (26, 1)];
+    let words = |fields: &[(usize, i64)]| {
+        let bytes = record(true, &[fields, &memory].concat(), 0, 0, [0, 0, 1023, 240]);
+        std::fs::write(folder.join("outside.bin"), bytes).unwrap();
+        said(&visor(&["draw", "outside.bin", "-o", "sheet.svg"], &folder))
+    };
+    for (words, reason) in [
+        (words(&halves), "Rows of an odd number of 4-bit texels"),
+        (words(&wide), "A flipped load of more than 1,024 columns"),
+    ] {
+        let dark = words.lines().find(|line| line.contains("(dark squares)"));
+        assert!(dark.is_some_and(|line| line.contains(reason)), "{words}");
+        assert!(
+            words.contains("lie inside the image, as is proved"),
+            "{words}"
+        );
+    }
 }
 
 /// Red above, blue below, as texels of 16 bits, as PNG and as PPM.

@@ -12,7 +12,7 @@ use crate::{page, png, raster, run, svg};
 use std::ffi::OsString;
 use std::io::{self, Write};
 use std::time::{Duration, Instant};
-use visorlongan::{Record, Scissor};
+use visorlongan::{Mode, Record, Scissor};
 
 /// Numbers that look like chance and are the same in each run (splitmix64).
 pub struct Random(u64);
@@ -235,6 +235,9 @@ fn any_record_is_drawn_and_reported() {
     let mut rows = Vec::new();
     while Instant::now() < deadline {
         let study = Study::of(&subject(&mut random));
+        let copied = study.mode == Some(Mode::Copy) && study.end.result().is_ok();
+        let kept = study.met.is_once() && study.wrong_loads() == 0;
+        assert!(!copied || kept, "{:?}", study.object);
         let picture = picture(&mut random, &study);
         let sheet = Sheet::of(&study, &picture);
         let text = svg::page(&sheet.drawing, &sheet.words);

@@ -4,7 +4,9 @@
 use crate::input::Subject;
 use crate::machine::Machine;
 use std::ops::Range;
-use visorlongan::{count, drift, Drift, End, Entry, Kind, Mode, Object, Planner, Rect, Request};
+use visorlongan::{
+    count, drift, Drift, End, Entry, Kind, Load, Mode, Object, Planner, Rect, Request,
+};
 
 /// What a pixel of the screen shows.
 #[derive(Clone, Copy, Debug, PartialEq, Eq)]
@@ -46,6 +48,30 @@ impl Strip {
 pub struct LoadSeen {
     pub strip: usize,
     pub words: u64,
+    /// Its columns of the image, in a copied plan.
+    pub columns: u16,
+    /// Whether its columns and rows lie inside the image. Those of a scaled plan are counted from
+    /// other addresses than the image's, so that it says something of copied plans alone.
+    pub inside: bool,
+}
+
+/// Pixels of the screen that are met by rectangles, counted as the machine draws them.
+#[derive(Clone, Copy, Debug, Default, PartialEq, Eq)]
+pub struct Met {
+    /// The pixels of the clipped frame, and how many of them are met.
+    pub frame: usize,
+    pub inside: usize,
+    /// Pixels met more than once.
+    pub again: usize,
+    /// Pixels met that are not the frame's.
+    pub elsewhere: usize,
+}
+
+impl Met {
+    /// Each pixel of the frame once, and no other.
+    pub fn is_once(&self) -> bool {
+        self.inside == self.frame && self.again + self.elsewhere == 0
+    }
 }
 
 /// Where one row of strips ends and the next begins.
@@ -87,9 +113,9 @@ pub struct Study {
     pub proved: bool,
     pub width: i32,
     pub height: i32,
-    /// What each pixel shows, line by line, and the most often that one is drawn.
+    /// What each pixel shows, line by line, and what the rectangles meet.
     pub screen: Vec<Shown>,
-    pub most_drawn: u32,
+    pub met: Met,
 }
 
 /// The words of texture memory that one load may fill, by format and size (7.4, 8.5).
@@ -135,7 +161,7 @@ impl Study {
             width: right.max(320),
             height: lower.max(240),
             screen: Vec::new(),
-            most_drawn: 0,
+            met: Met::default(),
         };
         study.follow(&request);
         study
@@ -154,6 +180,8 @@ impl Study {
                     self.loads.push(LoadSeen {
                         strip: self.strips.len(),
                         words: load.rows * u64::from(line),
+                        columns: (load.lrs / 4).saturating_sub(load.uls / 4) + 1,
+                        inside: self.has(&load),
                     });
                 }
                 // Its tile was set before the load that comes before it.
@@ -203,8 +231,7 @@ impl Study {
         };
         let places = (0..self.height).flat_map(|y| (0..self.width).map(move |x| (x, y)));
         self.screen = places.map(shown).collect();
-        let drawn = machine.pixels().map(|(.., pixel)| pixel.drawn);
-        self.most_drawn = drawn.max().unwrap_or(0);
+        self.met = self.counted(machine);
         for n in 0..self.strips.len() {
             let (columns, line) = (self.strips[n].columns.clone(), self.strips[n].lines.start);
             let column = |x| match self.shown(x, line) {
@@ -213,6 +240,31 @@ impl Study {
             };
             self.strips[n].ends = column(columns.start).zip(column(columns.end - 1));
         }
+    }
+
+    fn counted(&self, machine: &Machine) -> Met {
+        let (columns, lines) = self.frame();
+        let mut met = Met {
+            frame: columns.len() * lines.len(),
+            elsewhere: machine.outside,
+            ..Met::default()
+        };
+        for (x, y, pixel) in machine.pixels().filter(|(.., pixel)| pixel.drawn > 0) {
+            let inside = columns.contains(&x) && lines.contains(&y);
+            met.inside += usize::from(inside);
+            met.elsewhere += usize::from(!inside);
+            met.again += usize::from(pixel.drawn > 1);
+        }
+        met
+    }
+
+    /// Whether a load's columns and rows are whole ones of the image.
+    fn has(&self, load: &Load) -> bool {
+        let within = |first: u16, last: u16, count: u32| {
+            let (first, last) = (first / 4, last / 4);
+            first <= last && u32::from(last) < count
+        };
+        within(load.uls, load.lrs, self.columns()) && within(load.ult, load.lrt, self.rows())
     }
 
     /// The texel whose first half byte is there in the host's memory.
@@ -281,20 +333,38 @@ impl Study {
         }
     }
 
-    /// The pixels of the frame that the scissor leaves: columns and lines.
+    /// The loads that leave the image or overfill texture memory: none of a finished copy.
+    pub fn wrong_loads(&self) -> usize {
+        let wrong = |load: &&LoadSeen| !load.inside || load.words > self.capacity();
+        self.loads.iter().filter(wrong).count()
+    }
+
+    /// Where the frame that the scissor leaves begins, across and down, in quarters of a pixel.
+    pub fn begins(&self) -> [i32; 2] {
+        let [left, top, ..] = self.edges();
+        self.object.map_or([0; 2], |object| {
+            [object.frame_x.0.max(left), object.frame_y.0.max(top)]
+        })
+    }
+
+    /// The scissor's edges in quarters of a pixel.
+    fn edges(&self) -> [i32; 4] {
+        self.scissor.map(|edge| edge.clamp(0, 1023) * 4)
+    }
+
+    /// The pixels of that frame: columns and lines.
     pub fn frame(&self) -> (Range<i32>, Range<i32>) {
         let Some(object) = self.object else {
             return (0..0, 0..0);
         };
-        let [left, top, right, lower] = self.scissor.map(|edge| edge.clamp(0, 1023) * 4);
-        let reach = |from: i32, length: i32, low: i32, high: i32| {
-            let (first, end) = (from.max(low), (from + length).min(high));
+        let ([x, y], [.., right, lower]) = (self.begins(), self.edges());
+        let reach = |first: i32, end: i32| {
             let whole = (end - first).div_euclid(4).max(0);
             first.div_euclid(4)..first.div_euclid(4) + whole
         };
         (
-            reach(object.frame_x.0, object.frame_w.0, left, right),
-            reach(object.frame_y.0, object.frame_h.0, top, lower),
+            reach(x, (object.frame_x.0 + object.frame_w.0).min(right)),
+            reach(y, (object.frame_y.0 + object.frame_h.0).min(lower)),
         )
     }
 

@@ -1,6 +1,6 @@
 -- The checks of a copy request one after another, then the test for an empty frame: each answer is one of the three.
 -- Assumes nothing.
-use Rattle.std.specs.Prelude.{◌≡◌, refl, Ok, Err, Bool, true, false, List, ℕ, ◌+◌, ◌/◌, ◌≤◌, eqb}
+use Rattle.std.specs.Prelude.{◌≡◌, refl, Ok, Err, Bool, true, false, List, ℕ, ◌+◌, ◌/◌, ◌≤◌}
 use Rattle.std.proofs.Common.{sym, ap, subst, ◌∙◌, arith}
 use Rattle.object.specs.declared.types.Scissor.{Scissor}
 use Rattle.object.specs.declared.types.Verdict.{Verdict}
@@ -8,24 +8,24 @@ use Rattle.object.specs.declared.types.Verdict.TheVariants as verdict
 use Rattle.object.specs.declared.types.Background.TheVariants as background
 use Rattle.object.specs.Layout.{layout, value_of, decode, Bytes}
 use Rattle.object.specs.Reads.{read_below}
-use Rattle.checks.specs.Check.{Checked, verdict_number, any, scissor_bad, object_faults, copy_faults, opcode_bad, short, refused_by, object_of, checked_of}
+use Rattle.checks.specs.Check.{Checked, any, scissor_bad, object_faults, copy_faults, opcode_bad, short, refused_by, object_of, checked_of}
 use Rattle.checks.proofs.Passed.{passed_copy}
 use Rattle.plan.specs.Request.{Request}
 use Rattle.plan.specs.Out.{Out, yield, plan_out}
 use Rattle.plan.specs.Copy.{copy_empty, copy_plan}
 use Rattle.plan.specs.Whole.{copy_out, checked_out, plan_with}
 use Rattle.strips.specs.Frame.{copy_sound}
-use Rattle.cells.specs.Course.{object_in, frame_of, Course}
+use Rattle.cells.specs.Course.{object_in, frame_of, ByChecks, Course}
 use Rattle.cells.specs.Course.Course.{refused, empty, framed}
 
 -- ---- the checks of a copy request
 
 abbrev Kind : ℕ → List ℕ → Checked → Type 0
-Kind p bs (Err v) = eqb (verdict_number v) 7 ≡ false
+Kind p bs (Err v) = ByChecks v
 Kind p bs (Ok (background.Copy bg)) = bg ≡ decode p true bs
 Kind p bs (Ok (background.Scaled bg)) = ⊥
 
-refused_or : (p : ℕ) (bs : List ℕ) (t : Bool) (v : Verdict) (rest : Checked) → eqb (verdict_number v) 7 ≡ false → Kind p bs rest → Kind p bs (refused_by t v rest)
+refused_or : (p : ℕ) (bs : List ℕ) (t : Bool) (v : Verdict) (rest : Checked) → ByChecks v → Kind p bs rest → Kind p bs (refused_by t v rest)
 refused_or p bs true v rest r k = r
 refused_or p bs false v rest r k = k
 
@@ -37,11 +37,11 @@ copy_kind p bs s =
     let fourth : Checked = refused_by (any (object_faults bg)) verdict.Object fifth in
     let third : Checked = refused_by (scissor_bad s) verdict.Scissor fourth in
     let second : Checked = refused_by (short p 10 bs) verdict.Short third in
-    refused_or p bs (opcode_bad 10) verdict.Opcode second refl
-    (refused_or p bs (short p 10 bs) verdict.Short third refl
-    (refused_or p bs (scissor_bad s) verdict.Scissor fourth refl
-    (refused_or p bs (any (object_faults bg)) verdict.Object fifth refl
-    (refused_or p bs (any (copy_faults bg)) verdict.Copy (Ok (background.Copy bg)) refl refl))))
+    refused_or p bs (opcode_bad 10) verdict.Opcode second (record { low = omega arith; high = omega arith })
+    (refused_or p bs (short p 10 bs) verdict.Short third (record { low = omega arith; high = omega arith })
+    (refused_or p bs (scissor_bad s) verdict.Scissor fourth (record { low = omega arith; high = omega arith })
+    (refused_or p bs (any (object_faults bg)) verdict.Object fifth (record { low = omega arith; high = omega arith })
+    (refused_or p bs (any (copy_faults bg)) verdict.Copy (Ok (background.Copy bg)) (record { low = omega arith; high = omega arith }) refl))))
 
 rows_in : (p : ℕ) (bs : List ℕ) → Bytes bs → (decode p true bs).tmem_h / 4 ≤ 16383
 unfolding decode value_of layout

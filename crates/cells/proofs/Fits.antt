@@ -1,7 +1,7 @@
 -- Where tmem_h / 4 times the line of the full image width is at most the capacity, no copy plan is verdict 7: every strip's line and height are no larger.
 -- Assumes nothing.
 use Rattle.std.specs.Prelude.{◌≡◌, refl, false, Option, Some, None, List, [], ◌∷◌, ℕ, zero, suc, ◌*◌, ◌/◌, ◌≤◌, eqb}
-use Rattle.std.proofs.Common.{sym, ap, subst, ◌∙◌, arith, mul-le-mul, le-ltb}
+use Rattle.std.proofs.Common.{sym, ap, subst, ◌∙◌, arith, mul-le-mul, le-ltb, ne_eqb}
 use Rattle.measures.specs.Measure.{quarters, texels}
 use Rattle.object.specs.Layout.{Bytes}
 use Rattle.checks.specs.Check.{verdict_number}
@@ -43,7 +43,7 @@ line_is c x = refl
 abbrev Roomy : Copy → Type 0
 Roomy c = c.rows * line_of c.siz c.image_width ≤ c.capacity
 
-strip_fits : (c : Copy) → SoundCopy c → Roomy c → (p : Place) → InFrame c p → too_big p ≡ false
+strip_fits : (c : Copy) → SoundCopy c → Roomy c → (p : Place) → InFrame c 0 p → too_big p ≡ false
 strip_fits c s r p i =
     let b = strip_bounds c p.x s i.within in
     let l : (strip_of c p.x).line ≤ line_of c.siz c.image_width = rw (line_is c p.x) (line_le c.siz (strip_of c p.x).load_width c.image_width s.siz (omega arith)) in
@@ -94,6 +94,6 @@ unfolding copy_of
 never_7 p q o b r = by (course p q o b)
   where
     by : Course p q → eqb (verdict_number (plan_with p q).verdict) 7 ≡ false
-    by (refused v k e) = ap (λ (w : Plan). eqb (verdict_number w.verdict) 7) e ∙ k
+    by (refused v k e) = ap (λ (w : Plan). eqb (verdict_number w.verdict) 7) e ∙ ne_eqb (verdict_number v) 7 (λ f. let h = k.high in omega arith)
     by (empty t e) = ap (λ (w : Plan). eqb (verdict_number w.verdict) 7) e
     by (framed s e) = ap (λ (w : Plan). eqb (verdict_number w.verdict) 7) e ∙ plan_not_7 (copy_plan (frame_of p q)) (copy_not_7 (frame_of p q) s (omega (arith, r)))

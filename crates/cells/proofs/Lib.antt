@@ -1,4 +1,9 @@
 -- Laws of the definitions in specs/.
 pub mod Places
+pub mod Given
+pub mod Cover
+pub mod Once
+pub mod Loads
 pub mod Course
 pub mod Fits
+pub mod Every

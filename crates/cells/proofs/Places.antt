@@ -1,7 +1,7 @@
 -- Each loop of a copy plan is one walk over its part of the list, by one round after another; and each place of the list lies in the frame.
 -- Assumes nothing.
-use Rattle.std.specs.Prelude.{◌≡◌, refl, Bool, true, false, List, [], ◌∷◌, ◌++◌, ℕ, zero, suc, ◌+◌, ltb}
-use Rattle.std.proofs.Common.{sym, ap, ◌∙◌, append-nil, ltb-true}
+use Rattle.std.specs.Prelude.{◌≡◌, refl, Bool, true, false, List, [], ◌∷◌, ◌++◌, ℕ, zero, suc, ◌+◌, ◌<◌, ltb}
+use Rattle.std.proofs.Common.{sym, ap, ◌∙◌, arith, append-nil, ltb-true}
 use Rattle.plan.specs.declared.types.Copy.{Copy}
 use Rattle.plan.specs.declared.types.Entry.{Entry}
 use Rattle.plan.specs.Out.{Out, more, ◌>>=◌, ◌>>◌, yield, emit}
@@ -98,31 +98,41 @@ all_append P (p ∷ ps) qs h k = (h.0, all_append P ps qs h.1 k)
 
 -- ---- where the places of the list lie
 
-across_in : (n : ℕ) (c : Copy) (y sy h x : ℕ) → All (InRow c y sy h) (across n c y sy h x)
+further : (c : Copy) (y sy h x w : ℕ) (p : Place) → InRow c y sy h (x + w) p → InRow c y sy h x p
+further c y sy h x w p r = let f = r.from in record { is = r.is; from = omega arith; within = r.within }
+
+pub across_in : (n : ℕ) (c : Copy) (y sy h x : ℕ) → All (InRow c y sy h x) (across n c y sy h x)
 unfolding across
 across_in zero c y sy h x = tt
 across_in (suc n) c y sy h x = by (ltb x c.width) refl (across_in n c y sy h (x + (strip_of c x).strip_width))
   where
-    by : (t : Bool) → ltb x c.width ≡ t → All (InRow c y sy h) (across n c y sy h (x + (strip_of c x).strip_width)) → All (InRow c y sy h) (across (suc n) c y sy h x)
-    by true t r = rw (across_on n c y sy h x t) (record { is = refl; within = ltb-true x c.width t }, r)
+    by : (t : Bool) → ltb x c.width ≡ t → All (InRow c y sy h (x + (strip_of c x).strip_width)) (across n c y sy h (x + (strip_of c x).strip_width)) → All (InRow c y sy h x) (across (suc n) c y sy h x)
+    by true t r =
+        let w = (strip_of c x).strip_width in
+        rw (across_on n c y sy h x t) (record { is = refl; from = omega arith; within = ltb-true x c.width t }, all_map _ _ (across n c y sy h (x + w)) (further c y sy h x w) r)
     by false t r = rw (across_end (suc n) c y sy h x t) tt
 
-rowed : (c : Copy) (y : ℕ) (p : Place) → InRow c y (strip_row_of c y) (strip_height_of c y) p → InFrame c p
-rowed c y p r =
+rowed : (c : Copy) (y : ℕ) → y < c.height → (p : Place) → InRow c y (strip_row_of c y) (strip_height_of c y) 0 p → InFrame c y p
+rowed c y k p r =
     let line : p.y ≡ y = ap (λ (q : Place). q.y) r.is in
-    record { is = r.is ∙ ap (λ (m : ℕ). place_at c p.x m (strip_row_of c m) (strip_height_of c m)) (sym line); within = r.within }
+    record { is = r.is ∙ ap (λ (m : ℕ). place_at c p.x m (strip_row_of c m) (strip_height_of c m)) (sym line); within = r.within; from = omega arith; above = omega arith }
 
-down_in : (n : ℕ) (c : Copy) (y : ℕ) → All (InFrame c) (down n c y)
+lower : (c : Copy) (y h : ℕ) (p : Place) → InFrame c (y + h) p → InFrame c y p
+lower c y h p r = let f = r.from in record { is = r.is; within = r.within; from = omega arith; above = r.above }
+
+pub down_in : (n : ℕ) (c : Copy) (y : ℕ) → All (InFrame c y) (down n c y)
 unfolding down
 down_in zero c y = tt
 down_in (suc n) c y = by (ltb y c.height) refl (down_in n c (y + strip_height_of c y))
   where
-    by : (t : Bool) → ltb y c.height ≡ t → All (InFrame c) (down n c (y + strip_height_of c y)) → All (InFrame c) (down (suc n) c y)
+    by : (t : Bool) → ltb y c.height ≡ t → All (InFrame c (y + strip_height_of c y)) (down n c (y + strip_height_of c y)) → All (InFrame c y) (down (suc n) c y)
     by true t r =
-        let row = across c.width c y (strip_row_of c y) (strip_height_of c y) 0 in
-        rw (down_on n c y t) (all_append (InFrame c) row (down n c (y + strip_height_of c y)) (all_map _ _ row (rowed c y) (across_in c.width c y (strip_row_of c y) (strip_height_of c y) 0)) r)
+        let h = strip_height_of c y in
+        let row = across c.width c y (strip_row_of c y) h 0 in
+        rw (down_on n c y t)
+        (all_append (InFrame c y) row (down n c (y + h)) (all_map _ _ row (rowed c y (ltb-true y c.height t)) (across_in c.width c y (strip_row_of c y) h 0)) (all_map _ _ (down n c (y + h)) (lower c y h) r))
     by false t r = rw (down_end (suc n) c y t) tt
 
-pub places_in : (c : Copy) → All (InFrame c) (places_of c)
+pub places_in : (c : Copy) → All (InFrame c 0) (places_of c)
 unfolding places_of
 places_in c = down_in c.height c 0

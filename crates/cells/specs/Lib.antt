@@ -1,3 +1,5 @@
--- The strips of a copy plan as a list of places, and what holds of each of them.
+-- The strips of a copy plan as a list of places, what is claimed of them, and of the cells that their rectangles meet.
 pub mod Places
+pub mod Given
+pub mod Met
 pub mod Course

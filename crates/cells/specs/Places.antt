@@ -1,6 +1,6 @@
 -- The strips of a copy plan as a list of places: what is claimed of every strip of a plan is proved of the list.
 -- Assumes nothing.
-use Rattle.std.specs.Prelude.{◌≡◌, true, false, List, [], ◌∷◌, ◌++◌, ℕ, zero, suc, ◌+◌, ◌<◌, ltb}
+use Rattle.std.specs.Prelude.{◌≡◌, true, false, List, [], ◌∷◌, ◌++◌, ℕ, zero, suc, ◌+◌, ◌≤◌, ◌<◌, ltb}
 use Rattle.object.specs.declared.types.Verdict.TheVariants as verdict
 use Rattle.plan.specs.declared.types.Copy.{Copy}
 use Rattle.plan.specs.Out.{Out, ◌>>◌, yield, refuse}
@@ -40,12 +40,15 @@ abbrev pub All : (Place → Type 0) → List Place → Type 0
 All P [] = Unit {0}
 All P (p ∷ ps) = P p × All P ps
 
--- in the row at line y
-pub record InRow (c : Copy) (y sy h : ℕ) (p : Place) : Type 0 where
+-- in the row at line y, from cell x on
+pub record InRow (c : Copy) (y sy h x : ℕ) (p : Place) : Type 0 where
   pub is : p ≡ place_at c p.x y sy h
+  pub from : x ≤ p.x
   pub within : p.x < c.width
 
--- in a row of the frame
-pub record InFrame (c : Copy) (p : Place) : Type 0 where
+-- in a row of the frame from line y on
+pub record InFrame (c : Copy) (y : ℕ) (p : Place) : Type 0 where
   pub is : p ≡ place_at c p.x p.y (strip_row_of c p.y) (strip_height_of c p.y)
   pub within : p.x < c.width
+  pub from : y ≤ p.y
+  pub above : p.y < c.height

@@ -8,3 +8,4 @@ pub mod Stepped
 pub mod Applied
 pub mod Loads
 pub mod Pictures
+pub mod Cells

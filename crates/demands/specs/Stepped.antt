@@ -2,7 +2,7 @@
 -- Assumes nothing.
 use Rattle.std.specs.Prelude.{List, [], ◌∷◌, ◌++◌, ℕ}
 
--- ---- demand 3: the rectangles are read back from the answers' words, one answer after another
+-- ---- entries are read back from the answers' words, one answer after another
 
 abbrev pub joined : List (List ℕ) → List ℕ
 joined [] = []

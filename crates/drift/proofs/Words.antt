@@ -1,7 +1,7 @@
--- Demand 3 of a whole run: of the rectangles read back from the buffer's words.
+-- Demand 3 of a whole run: of the entries that the buffer's words read back as, which are the plan's, a rectangle's signed numbers by their 64 bits.
 -- Assumes nothing.
-use Rattle.std.specs.Prelude.{◌≡◌, refl, Bool, true, false, cond, List, [], ◌∷◌, ◌++◌, ℕ, zero, suc, ◌+◌, ◌-◌, ◌*◌, ◌/◌, ◌%◌, ◌<◌, ◌≤◌, ◌^◌, eqb, ltb, length, take, drop, ℤ, pos, ◌+ℤ◌, ◌-ℤ◌}
-use Rattle.std.proofs.Common.{sym, subst, arith, mod-eq_of_lt, take-append-drop, to_z}
+use Rattle.std.specs.Prelude.{◌≡◌, refl, Bool, true, false, cond, List, [], ◌∷◌, ◌++◌, ℕ, zero, suc, ◌+◌, ◌-◌, ◌*◌, ◌/◌, ◌%◌, ◌<◌, ◌≤◌, ◌^◌, eqb, ltb, length, take, drop, map, ℤ, pos, ◌+ℤ◌, ◌-ℤ◌}
+use Rattle.std.proofs.Common.{sym, ap, subst, ◌∙◌, append_assoc, arith, mod-eq_of_lt, take-append-drop, to_z}
 use Rattle.std.proofs.lemmas.Bool.{eqb-false}
 use Rattle.std.specs.Int.Signed.{lt_z}
 use Rattle.std.specs.Int.{w64}
@@ -30,7 +30,7 @@ use Rattle.object.specs.declared.types.Verdict.TheVariants.{Full}
 use Rattle.checks.specs.Check.{Checked}
 use Rattle.checks.specs.Check.{checked_of}
 use Rattle.plan.specs.Whole.{plan_of, plan_with, checked_out, scaled_out}
-use Rattle.plan.specs.Run.{Ran, rectangles, entry_words, plan_words, cut_at, end_of, run_of}
+use Rattle.plan.specs.Run.{Ran, entry_words, plan_words, cut_at, end_of, run_of}
 use Rattle.plan.specs.Steps.{RunGives}
 use Rattle.plan.specs.Laws.{entries_out, more_nil, passes_on, passes_end}
 use Rattle.plan.specs.Demand.{Drift, drift_of, strips_of, Near, AllNear, Apt, ahead}
@@ -40,7 +40,7 @@ use Rattle.drift.specs.Walk.{pass_rows, pass_rect, pass_lines, pass_left, drawn_
 use Rattle.drift.proofs.Walk.{idle_is, draw_is, lines_apart}
 use Rattle.drift.proofs.Demand3.{checked_scaled}
 use Rattle.drift.proofs.Prefix.{cut_near}
-use Rattle.drift.specs.Words.{rects_from, Short, Drawn}
+use Rattle.drift.specs.Words.{entries_from, reread, Short, Drawn}
 
 plain_drawn : (es fs : List Entry) → Plain es → Drawn fs → Drawn (es ++ fs)
 plain_drawn [] fs p q = q
@@ -185,43 +185,51 @@ pub short_entries : (q : Request) → q.opcode ≡ 9 → Short (plan_of q).entri
 unfolding plan_of plan_with
 short_entries q e = plan_of_lem (checked_out (checked_of 4 q.bytes q.opcode q.scissor) q) (short_request q e)
 
--- what the words read back as is near where the entries are
-pub words_near : (d : Drift) (n : ℕ) (ks : List ℤ) (es : List Entry) (ws : List ℕ) → Short es → AllNear d n ks es → AllNear d n ks (rects_from (length es) (plan_words es ++ ws))
-unfolding rects_from plan_words entry_words
-words_near d n ks [] ws s h = tt
-words_near d n ks (Image fmt siz width address ∷ es) ws s h = words_near d n ks es ws s h
-words_near d n ks (Tile i fmt siz line tmem palette cms cmt masks maskt ∷ es) ws s h = words_near d n ks es ws s h
-words_near d n ks (Size i uls ult lrs lrt ∷ es) ws s h = words_near d n ks es ws s h
-words_near d n ks (Load i uls ult lrs lrt words rows stride start len ∷ es) ws s h = words_near d n ks es ws s h
-words_near d n [] (Rect i ulx uly lrx lry uls ult dsdx dtdy row ∷ es) ws s h = absurd h
-words_near d n (k ∷ ks) (Rect i ulx uly lrx lry uls ult dsdx dtdy row ∷ es) ws s h =
-    ((λ j l. subst (λ (x : ℤ). Near d k (ahead d k row x n j)) s.0 (h.0 j l)), words_near d (n + (lry - uly) / 4) ks es ws s.1 h.1)
+-- ---- the words read back
 
--- every rectangle is read back
-pub rects_all : (es : List Entry) (ws : List ℕ) → length (rects_from (length es) (plan_words es ++ ws)) ≡ rectangles es
-unfolding rects_from plan_words entry_words rectangles
-rects_all [] ws = refl
-rects_all (Image fmt siz width address ∷ es) ws = rects_all es ws
-rects_all (Tile i fmt siz line tmem palette cms cmt masks maskt ∷ es) ws = rects_all es ws
-rects_all (Size i uls ult lrs lrt ∷ es) ws = rects_all es ws
-rects_all (Load i uls ult lrs lrt words rows stride start len ∷ es) ws = rects_all es ws
-rects_all (Rect i ulx uly lrx lry uls ult dsdx dtdy row ∷ es) ws = omega (arith, rects_all es ws)
+pub entry_read : (n : ℕ) (e : Entry) (ws : List ℕ) → entries_from (suc n) (entry_words e ++ ws) ≡ reread e ∷ entries_from n ws
+unfolding entries_from entry_words
+entry_read n (Image fmt siz width address) ws = refl
+entry_read n (Tile i fmt siz line tmem palette cms cmt masks maskt) ws = refl
+entry_read n (Size i uls ult lrs lrt) ws = refl
+entry_read n (Load i uls ult lrs lrt words rows stride start len) ws = refl
+entry_read n (Rect i ulx uly lrx lry uls ult dsdx dtdy row) ws = refl
+
+pub read_back : (es : List Entry) (ws : List ℕ) → entries_from (length es) (plan_words es ++ ws) ≡ map reread es
+unfolding entries_from plan_words
+read_back [] ws = refl
+read_back (e ∷ es) ws =
+    ap (entries_from (suc (length es))) (append_assoc (entry_words e) (plan_words es) ws) ∙ entry_read (length es) e (plan_words es ++ ws) ∙ ap (λ (l : List Entry). reread e ∷ l) (read_back es ws)
+
+-- what is read back is near where the entries are
+pub reread_near : (d : Drift) (n : ℕ) (ks : List ℤ) (es : List Entry) → Short es → AllNear d n ks es → AllNear d n ks (map reread es)
+reread_near d n ks [] s h = tt
+reread_near d n ks (Image fmt siz width address ∷ es) s h = reread_near d n ks es s h
+reread_near d n ks (Tile i fmt siz line tmem palette cms cmt masks maskt ∷ es) s h = reread_near d n ks es s h
+reread_near d n ks (Size i uls ult lrs lrt ∷ es) s h = reread_near d n ks es s h
+reread_near d n ks (Load i uls ult lrs lrt words rows stride start len ∷ es) s h = reread_near d n ks es s h
+reread_near d n [] (Rect i ulx uly lrx lry uls ult dsdx dtdy row ∷ es) s h = absurd h
+reread_near d n (k ∷ ks) (Rect i ulx uly lrx lry uls ult dsdx dtdy row ∷ es) s h =
+    ((λ j l. subst (λ (x : ℤ). Near d k (ahead d k row x n j)) s.0 (h.0 j l)), reread_near d (n + (lry - uly) / 4) ks es s.1 h.1)
+
+pub short_first : (k : ℕ) (es : List Entry) → Short es → Short (take k es)
+short_first k es s = short_prefix (take k es) (drop k es) (rw (take-append-drop k es) s)
 
 cut_short : (n : ℕ) (p : Plan) → Short p.entries → Short (cut_at n p).entries
 unfolding cut_at
 cut_short n p h = by (ltb (n / 11) (length p.entries))
   where
     by : (t : Bool) → Short (cond t (record { entries = take (n / 11) p.entries; left = []; verdict = Full }) p).entries
-    by true = short_prefix (take (n / 11) p.entries) (drop (n / 11) p.entries) (rw (take-append-drop (n / 11) p.entries) h)
+    by true = short_first (n / 11) p.entries h
     by false = h
 
 -- demand 3 of a whole run into any buffer, read back from the buffer and the end's count of entries alone
-pub run_near : (q : Request) → Apt q → (buf : List ℕ) (b : Bank) → AllNear (drift_of q) 0 (strips_of (drift_of q)) (rects_from (run_of (plan_of q) buf b).end.entries (run_of (plan_of q) buf b).buffer)
+pub run_near : (q : Request) → Apt q → (buf : List ℕ) (b : Bank) → AllNear (drift_of q) 0 (strips_of (drift_of q)) (entries_from (run_of (plan_of q) buf b).end.entries (run_of (plan_of q) buf b).buffer)
 unfolding run_of end_of
 run_near q a buf b =
     let p = cut_at (length buf) (plan_of q) in
-    words_near (drift_of q) 0 (strips_of (drift_of q)) p.entries (drop (11 * length p.entries) buf) (cut_short (length buf) (plan_of q) (short_entries q a.scaled)) (cut_near q a (length buf))
+    rw (read_back p.entries (drop (11 * length p.entries) buf)) (reread_near (drift_of q) 0 (strips_of (drift_of q)) p.entries (cut_short (length buf) (plan_of q) (short_entries q a.scaled)) (cut_near q a (length buf)))
 
 -- and of any run's definition that is this one
-pub ran_near : (ran_of : Request → List ℕ → Bank → Ran) → RunGives ran_of → (q : Request) → Apt q → (buf : List ℕ) (b : Bank) → AllNear (drift_of q) 0 (strips_of (drift_of q)) (rects_from (ran_of q buf b).end.entries (ran_of q buf b).buffer)
+pub ran_near : (ran_of : Request → List ℕ → Bank → Ran) → RunGives ran_of → (q : Request) → Apt q → (buf : List ℕ) (b : Bank) → AllNear (drift_of q) 0 (strips_of (drift_of q)) (entries_from (ran_of q buf b).end.entries (ran_of q buf b).buffer)
 ran_near ran_of law q a buf b = rw (law.ran q buf b) (run_near q a buf b)

@@ -100,7 +100,7 @@ pub record Returns (p : Planner) (ws : List ℕ) : Type 0 where
   pub test : sound_test ws ≡ true
   pub back : planner_from ws ≡ p
 
-verdict_back : (v : Verdict) → verdict_from (verdict_number v) ≡ v
+pub verdict_back : (v : Verdict) → verdict_from (verdict_number v) ≡ v
 verdict_back verdict.Finished = refl
 verdict_back verdict.Opcode = refl
 verdict_back verdict.Short = refl

@@ -8,10 +8,10 @@ const MAJOR: u64 = 0;
 
 const MINOR: u64 = 7;
 
-const PATCH: u64 = 0;
+const PATCH: u64 = 1;
 
 pub fn number() -> u64
-    ensures { result ≡ version_of 0 7 0 }
+    ensures { result ≡ version_of 0 7 1 }
 {
     MAJOR * 65536 + MINOR * 256 + PATCH
 }

@@ -3,7 +3,7 @@
 use super::image::Sampled;
 use super::pen::{BLUE, DARK_RED, GREY, MAGENTA, ORANGE, RED};
 use super::screen::next_place;
-use crate::fields::{format_name, grouped, texel_bits};
+use crate::fields::{counted, format_name, grouped, texel_bits};
 use crate::paint::Rgb;
 use crate::picture::Picture;
 use crate::study::{Edge, Shown, Study};
@@ -61,7 +61,8 @@ pub fn findings(study: &Study, picture: &Picture, sampled: &Sampled) -> Vec<Find
             drift(study, &mut said);
             seams(study, &mut said);
         }
-        _ => once(study, &mut said),
+        Some(Mode::Copy) => copied(study, &mut said),
+        None => {}
     }
     edges(study, &mut said);
     others(study, &mut said);
@@ -281,33 +282,89 @@ fn edges(study: &Study, said: &mut Vec<Finding>) {
     }
 }
 
-/// Counted on the machine's own screen, of finished copies.
-fn once(study: &Study, said: &mut Vec<Finding>) {
-    let (columns, lines) = study.frame();
-    let area = columns.len() * lines.len();
-    let drawn = |x: i32, y: i32| study.shown(x, y) != Shown::Nothing;
-    let inside = lines
-        .clone()
-        .flat_map(|y| columns.clone().map(move |x| (x, y)))
-        .filter(|(x, y)| drawn(*x, *y));
-    let all = study
-        .screen
-        .iter()
-        .filter(|shown| **shown != Shown::Nothing)
-        .count();
+/// What a copied plan meets of the clipped frame, and loads of the image. What is proved of a
+/// finished one is counted here again, on the machine's own screen.
+fn copied(study: &Study, said: &mut Vec<Finding>) {
     let finished = study.end.verdict == Verdict::Finished;
-    if finished && study.most_drawn == 1 && all == area && inside.count() == area {
-        let count = grouped(study.end.rectangles as i64);
-        let many = if study.end.rectangles == 1 {
-            "rectangle meets"
-        } else {
-            "rectangles meet"
-        };
-        said.push((
-            BLUE,
-            format!("{count} {many} every pixel of the clipped frame once."),
-        ));
+    let begins = inside_a_pixel(study);
+    let pixel = if begins.is_some() { "cell" } else { "pixel" };
+    match (finished, study.strips.len()) {
+        (false, 0) => return,
+        (false, _) => said.push(stand(study, pixel)),
+        (true, 0) if study.met.is_once() => return,
+        (true, _) => said.extend([once(study, pixel), loads(study)]),
     }
+    said.extend(begins);
+}
+
+/// How many rectangles there are, and what they do.
+fn rectangles(study: &Study, one: &str, more: &str) -> String {
+    let count = study.strips.len() as u64;
+    let verb = if count == 1 { one } else { more };
+    format!("{} {verb}", counted(count, "rectangle", "rectangles"))
+}
+
+/// What the rectangles of a refused plan meet: nothing is proved of that.
+fn stand(study: &Study, pixel: &str) -> Finding {
+    let some = rectangles(study, "stands and meets", "stand and meet");
+    let [met, all] = [study.met.inside, study.met.frame].map(|count| grouped(count as i64));
+    (
+        BLUE,
+        format!("{some} {met} of {all} {pixel}s of the clipped frame."),
+    )
+}
+
+const PROVED: &str = "as is proved of every finished copy plan";
+
+fn once(study: &Study, pixel: &str) -> Finding {
+    let met = study.met;
+    if met.is_once() {
+        let all = rectangles(study, "meets", "meet");
+        let text = format!("{all} every {pixel} of the clipped frame once and no other, {PROVED}.");
+        return (BLUE, text);
+    }
+    let [some, all, again, elsewhere] =
+        [met.inside, met.frame, met.again, met.elsewhere].map(|count| grouped(count as i64));
+    (
+        RED,
+        format!(
+            "{some} of {all} {pixel}s of the clipped frame are met, {again} more than once, and \
+             {elsewhere} elsewhere: each should be met once and no other, {PROVED}."
+        ),
+    )
+}
+
+/// The words that the largest load fills are at the head of the sheet.
+fn loads(study: &Study) -> Finding {
+    match study.wrong_loads() {
+        0 => (
+            BLUE,
+            "The columns and rows of every load lie inside the image, as is proved too; bytes \
+             that fill a row's last word may lie past the row's end."
+                .to_string(),
+        ),
+        wrong => (
+            RED,
+            format!(
+                "Loads that leave the image or overfill texture memory: {} of {}. There should be \
+                 none, {PROVED}.",
+                grouped(wrong as i64),
+                grouped(study.loads.len() as i64)
+            ),
+        ),
+    }
+}
+
+/// Where the clipped frame's cells are no pixels of the screen.
+fn inside_a_pixel(study: &Study) -> Option<Finding> {
+    let begins = study.begins();
+    let [x, y] = begins.map(|quarters| f64::from(quarters) / 4.0);
+    let text = format!(
+        "The clipped frame begins inside a pixel, at ({x}, {y}): each cell of it is shown in the \
+         pixel in which the cell begins."
+    );
+    let inside = begins.iter().any(|quarters| quarters % 4 != 0);
+    inside.then_some((GREY, text))
 }
 
 fn others(study: &Study, said: &mut Vec<Finding>) {
@@ -320,9 +377,70 @@ fn others(study: &Study, said: &mut Vec<Finding>) {
         said.push((
             RED,
             format!(
-                "{} pixels (dark squares) show what texture memory held before, or bytes outside the image.",
-                grouped(count as i64)
+                "{} pixels (dark squares) show what texture memory held before, or bytes outside the image.{}",
+                grouped(count as i64),
+                reason(study)
             ),
         ));
+    }
+}
+
+/// Why a copied plan shows such pixels though its loads lie inside the image.
+fn reason(study: &Study) -> &'static str {
+    let halves =
+        study.object.is_some_and(|object| object.image_siz == 0) && study.columns() % 2 == 1;
+    let wide = study.flipped() && study.loads.iter().any(|load| load.columns > 1_024);
+    match study.mode {
+        Some(Mode::Copy) if halves => {
+            " Rows of an odd number of 4-bit texels lie half a byte less apart than they are long."
+        }
+        Some(Mode::Copy) if wide => {
+            " A flipped load of more than 1,024 columns is shown from another column, as in the original."
+        }
+        _ => "",
+    }
+}
+
+#[cfg(test)]
+mod tests {
+    use super::*;
+    use crate::input::Asked;
+    use crate::study::Met;
+    use visorlongan::copy_object;
+
+    /// What is said of a picture of 320 by 240 texels of 16 bits, as it is copied and where the
+    /// study had counted something else.
+    fn said(change: fn(&mut Study)) -> Vec<Finding> {
+        let bytes = copy_object(320, 240, 0, 2, 0).expect("an object");
+        let mut study = Study::of(&Asked::default().object("title", &bytes, Mode::Copy));
+        change(&mut study);
+        let mut said = Vec::new();
+        copied(&study, &mut said);
+        said
+    }
+
+    #[test]
+    fn another_count_is_red() {
+        let as_it_is = said(|_| {});
+        assert!(as_it_is.iter().all(|(colour, _)| *colour == BLUE));
+        let red = |change, found: &str, place: usize| {
+            let (colour, text) = said(change).swap_remove(place);
+            assert!(colour == RED && text.starts_with(found), "{text}");
+            assert!(text.ends_with(", as is proved of every finished copy plan."));
+        };
+        let left_out = "76,799 of 76,800 pixels of the clipped frame are met, 2 more than once, and 1 elsewhere: ";
+        let counted = |study: &mut Study| {
+            let frame = study.met.frame;
+            study.met = Met {
+                frame,
+                inside: frame - 1,
+                again: 2,
+                elsewhere: 1,
+            }
+        };
+        red(counted, left_out, 0);
+        let wrong = "Loads that leave the image or overfill texture memory: 1 of 40. ";
+        red(|study| study.loads[3].inside = false, wrong, 1);
+        red(|study| study.loads[39].words = 513, wrong, 1);
     }
 }
