@@ -1,7 +1,7 @@
 -- The strips of a copy plan cover each cell of the frame once, and no other. Along a row, and then row after row: a strip before the cell does not cover it, one strip does, and those after it do not.
 -- Assumes nothing.
-use Rattle.std.specs.Prelude.{◌≡◌, refl, Bool, true, false, ◌&&◌, List, [], ◌∷◌, ◌++◌, ℕ, zero, suc, ◌+◌, ◌≤◌, ◌<◌, ltb, filter}
-use Rattle.std.proofs.Common.{sym, ap, subst, ◌∙◌, arith, append-nil, ltb-true, ltb-false, lt-ltb, le-ltb}
+use Rattle.std.specs.Prelude.{◌≡◌, ◌⊎◌, refl, Bool, true, false, ◌&&◌, List, [], ◌∷◌, ◌++◌, ℕ, zero, suc, ◌+◌, ◌≤◌, ◌<◌, ltb, filter}
+use Rattle.std.proofs.Common.{inl, inr, sym, ap, subst, ◌∙◌, arith, append-nil, ltb-true, ltb-false, lt-ltb, le-ltb}
 use Rattle.std.proofs.lemmas.Bool.{and_from, and_left, and_right}
 use Rattle.std.proofs.lemmas.List.Elements.{filter-append}
 use Rattle.plan.specs.declared.types.Copy.{Copy}
@@ -10,8 +10,8 @@ use Rattle.plan.specs.Sound.{SoundCopy}
 use Rattle.strips.specs.Strip.{strip_bounds, height_in}
 use Rattle.copy.specs.declared.types.Place.{Place}
 use Rattle.copy.specs.Walk.{place_at}
-use Rattle.cells.specs.Places.{across, down, places_of, All}
-use Rattle.cells.proofs.Places.{across_on, down_on, all_map, across_in, down_in, places_in}
+use Rattle.cells.specs.Places.{across, down, places_of, All, InRow, InFrame}
+use Rattle.cells.proofs.Places.{across_on, down_on, across_in, down_in, places_in}
 
 -- ---- the places that cover a cell, counted from the frame's corner
 
@@ -38,29 +38,25 @@ among_beyond from n i h = and_right (ltb from (i + 1)) (ltb i (from + n)) (le-lt
 
 -- ---- parts of a list that cover nothing
 
-pub none_of : (f : Place → Bool) (ps : List Place) → All (λ p. f p ≡ false) ps → filter f ps ≡ []
-none_of f [] h = refl
-none_of f (p ∷ ps) h = rw (h.0) (none_of f ps h.1)
+pub none_of : (P : Place → Type 0) (f : Place → Bool) → ((p : Place) → P p → f p ≡ false) → (ps : List Place) → All P ps → filter f ps ≡ []
+none_of P f g [] h = refl
+none_of P f g (p ∷ ps) h = rw (g p h.0) (none_of P f g ps h.1)
 
 module _ (c : Copy) (s : SoundCopy c) (i j : ℕ) where
   -- from cell x on, none covers a cell before x
   row_right : (n y sy h x : ℕ) → i < x → filter (covers i j) (across n c y sy h x) ≡ []
   row_right n y sy h x k =
-      none_of (covers i j) (across n c y sy h x)
-      (all_map _ _ (across n c y sy h x) (λ p r. let f = r.from in and_left (among p.x p.strip.strip_width i) (among p.y p.strip_height j) (among_before p.x p.strip.strip_width i (omega arith))) (across_in n c y sy h x))
+      none_of (InRow c y sy h x) (covers i j) (λ p r. let f = r.from in and_left (among p.x p.strip.strip_width i) (among p.y p.strip_height j) (among_before p.x p.strip.strip_width i (omega arith))) (across n c y sy h x) (across_in n c y sy h x)
 
   -- no strip of a row covers a cell below the row
   row_above : (n y sy h x : ℕ) → y + h ≤ j → filter (covers i j) (across n c y sy h x) ≡ []
   row_above n y sy h x k =
-      none_of (covers i j) (across n c y sy h x)
-      (all_map _ _ (across n c y sy h x)
-      (λ p r. subst (λ (q : Place). covers i j q ≡ false) (sym r.is) (and_right (among p.x (strip_of c p.x).strip_width i) (among y h j) (among_beyond y h j k))) (across_in n c y sy h x))
+      none_of (InRow c y sy h x) (covers i j) (λ p r. subst (λ (q : Place). covers i j q ≡ false) (sym r.is) (and_right (among p.x (strip_of c p.x).strip_width i) (among y h j) (among_beyond y h j k))) (across n c y sy h x) (across_in n c y sy h x)
 
   -- from line y on, none covers a cell above y
   rows_below : (n y : ℕ) → j < y → filter (covers i j) (down n c y) ≡ []
   rows_below n y k =
-      none_of (covers i j) (down n c y)
-      (all_map _ _ (down n c y) (λ p r. let f = r.from in and_right (among p.x p.strip.strip_width i) (among p.y p.strip_height j) (among_before p.y p.strip_height j (omega arith))) (down_in n c y))
+      none_of (InFrame c y) (covers i j) (λ p r. let f = r.from in and_right (among p.x p.strip.strip_width i) (among p.y p.strip_height j) (among_before p.y p.strip_height j (omega arith))) (down n c y) (down_in n c y)
 
   -- ---- one place
 
@@ -112,14 +108,9 @@ module _ (c : Copy) (s : SoundCopy c) (i j : ℕ) where
 
   -- ---- and nothing beyond the frame
 
-  pub uncovered : c.width ≤ i → filter (covers i j) (places_of c) ≡ []
-  uncovered a =
-      none_of (covers i j) (places_of c)
-      (all_map _ _ (places_of c)
-      (λ p r. let b = (strip_bounds c p.x s r.within).width' in subst (λ (q : Place). covers i j q ≡ false) (sym r.is) (and_left (among p.x (strip_of c p.x).strip_width i) (among p.y (strip_height_of c p.y) j) (among_beyond p.x (strip_of c p.x).strip_width i (omega arith)))) (places_in c))
-
-  pub uncovered_below : c.height ≤ j → filter (covers i j) (places_of c) ≡ []
-  uncovered_below a =
-      none_of (covers i j) (places_of c)
-      (all_map _ _ (places_of c)
-      (λ p r. let b = (height_in c p.y s r.above).height' in subst (λ (q : Place). covers i j q ≡ false) (sym r.is) (and_right (among p.x (strip_of c p.x).strip_width i) (among p.y (strip_height_of c p.y) j) (among_beyond p.y (strip_height_of c p.y) j (omega arith)))) (places_in c))
+  pub uncovered : c.width ≤ i ⊎ c.height ≤ j → filter (covers i j) (places_of c) ≡ []
+  uncovered a = none_of (InFrame c 0) (covers i j) (λ p r. subst (λ (q : Place). covers i j q ≡ false) (sym r.is) (beyond p r a)) (places_of c) (places_in c)
+    where
+      beyond : (p : Place) → InFrame c 0 p → c.width ≤ i ⊎ c.height ≤ j → covers i j (place_at c p.x p.y (strip_row_of c p.y) (strip_height_of c p.y)) ≡ false
+      beyond p r (inl w) = let b = (strip_bounds c p.x s r.within).width' in and_left (among p.x (strip_of c p.x).strip_width i) (among p.y (strip_height_of c p.y) j) (among_beyond p.x (strip_of c p.x).strip_width i (omega arith))
+      beyond p r (inr h) = let b = (height_in c p.y s r.above).height' in and_right (among p.x (strip_of c p.x).strip_width i) (among p.y (strip_height_of c p.y) j) (among_beyond p.y (strip_height_of c p.y) j (omega arith))

@@ -1,7 +1,7 @@
 -- The rectangles of a copy plan meet each cell of the clipped frame once, each quarter of it once, and nothing else: a rectangle meets a square where its strip covers the square's cell, and one strip covers it.
 -- Assumes nothing.
 use Rattle.std.specs.Prelude.{◌≡◌, refl, Bool, true, false, cond, ◌&&◌, ◌||◌, List, [], ◌∷◌, ℕ, ◌+◌, ◌-◌, ◌/◌, ◌≤◌, ◌<◌, ltb, leb, eqb, length, filter}
-use Rattle.std.proofs.Common.{sym, ap, ◌∙◌, true≢false, arith, ltb-true, ltb-false, lt-ltb, le-ltb, leb-true, leb-false, le-leb, eqb-true}
+use Rattle.std.proofs.Common.{inl, inr, sym, ap, ◌∙◌, true≢false, arith, ltb-true, ltb-false, lt-ltb, le-ltb, leb-true, leb-false, le-leb, eqb-true}
 use Rattle.std.proofs.lemmas.Bool.{and_left, and_right, lt-leb, ltb_from_iff}
 use Rattle.measures.specs.Measure.{quarters, of_texels}
 use Rattle.plan.specs.declared.types.Copy.{Copy}
@@ -13,8 +13,8 @@ use Rattle.copy.specs.Walk.{image_entry}
 use Rattle.cells.specs.Places.{places_of, All, InFrame}
 use Rattle.cells.specs.Given.{entries_of}
 use Rattle.cells.specs.Met.{overlaps, meets, met_at, between, inside, EachCellOnce}
-use Rattle.cells.proofs.Places.{all_map, places_in}
-use Rattle.cells.proofs.Cover.{among, covers, none_of, covered_once, uncovered, uncovered_below}
+use Rattle.cells.proofs.Places.{places_in}
+use Rattle.cells.proofs.Cover.{among, covers, none_of, covered_once, uncovered}
 
 -- ---- a strip's rectangle
 
@@ -31,9 +31,9 @@ met_entries side x y (p ∷ ps) = by (hits side x y p) refl (met_entries side x 
     by true e r = rw e (omega (arith, r))
     by false e r = rw e (omega (arith, r))
 
-same_of : (f g : Place → Bool) (ps : List Place) → All (λ p. f p ≡ g p) ps → filter f ps ≡ filter g ps
-same_of f g [] h = refl
-same_of f g (p ∷ ps) h = rw (h.0, same_of f g ps h.1)
+same_of : (P : Place → Type 0) (f g : Place → Bool) → ((p : Place) → P p → f p ≡ g p) → (ps : List Place) → All P ps → filter f ps ≡ filter g ps
+same_of P f g e [] h = refl
+same_of P f g e (p ∷ ps) h = rw (e p h.0, same_of P f g e ps h.1)
 
 -- ---- along one axis: n cells from one on, in a frame that begins at `edge`
 
@@ -92,8 +92,8 @@ module _ (c : Copy) (s : SoundCopy c) where
     where
       by : (t u : Bool) → ltb i c.width ≡ t → ltb j c.height ≡ u → length (filter (covers i j) (places_of c)) ≡ cond (t && u) 1 0
       by true true e f = ap length (covered_once c s i j (ltb-true i c.width e) (ltb-true j c.height f)).is
-      by true false e f = ap length (uncovered_below c s i j (ltb-false j c.height f))
-      by false u e f = ap length (uncovered c s i j (ltb-false i c.width e))
+      by true false e f = ap length (uncovered c s i j (inr (ltb-false j c.height f)))
+      by false u e f = ap length (uncovered c s i j (inl (ltb-false i c.width e)))
 
   cells_met : (i j : ℕ) → i < c.width → j < c.height → met_at 4 (quarters c.left + of_texels i) (quarters c.top + of_texels j) (entries_of (places_of c)) ≡ 1
   cells_met i j a b =
@@ -101,8 +101,8 @@ module _ (c : Copy) (s : SoundCopy c) where
       let y = quarters c.top + of_texels j in
       met_entries 4 x y (places_of c)
       ∙ ap length
-      (same_of (hits 4 x y) (covers i j) (places_of c)
-      (all_map _ _ (places_of c) (λ p r. rw (place_copy p r) (and_same (cell_axis (quarters c.left) p.x p.strip.strip_width (place_wide p r) i) (cell_axis (quarters c.top) p.y p.strip_height (place_high p r) j))) (places_in c)))
+      (same_of (InFrame c 0) (hits 4 x y) (covers i j)
+      (λ p r. rw (place_copy p r) (and_same (cell_axis (quarters c.left) p.x p.strip.strip_width (place_wide p r) i) (cell_axis (quarters c.top) p.y p.strip_height (place_high p r) j))) (places_of c) (places_in c))
       ∙ covering i j
       ∙ rw (lt-ltb i c.width a, lt-ltb j c.height b)
 
@@ -116,7 +116,7 @@ module _ (c : Copy) (s : SoundCopy c) where
       t = quarters c.top
 
       nowhere : ((p : Place) → InFrame c 0 p → hits 1 x y p ≡ false) → inside l t c.width c.height x y ≡ false → met_at 1 x y (entries_of (places_of c)) ≡ cond (inside l t c.width c.height x y) 1 0
-      nowhere f e = rw e (met_entries 1 x y (places_of c) ∙ ap length (none_of (hits 1 x y) (places_of c) (all_map _ _ (places_of c) f (places_in c))))
+      nowhere f e = rw e (met_entries 1 x y (places_of c) ∙ ap length (none_of (InFrame c 0) (hits 1 x y) f (places_of c) (places_in c)))
 
       by : (a b : Bool) → leb l x ≡ a → leb t y ≡ b → met_at 1 x y (entries_of (places_of c)) ≡ cond (inside l t c.width c.height x y) 1 0
       by false b e f =
@@ -130,8 +130,8 @@ module _ (c : Copy) (s : SoundCopy c) where
           let b = leb-true t y f in
           met_entries 1 x y (places_of c)
           ∙ ap length
-          (same_of (hits 1 x y) (covers ((x - l) / 4) ((y - t) / 4)) (places_of c)
-          (all_map _ _ (places_of c) (λ p r. rw (place_copy p r) (and_same (unit_axis l p.x p.strip.strip_width (place_wide p r) x a) (unit_axis t p.y p.strip_height (place_high p r) y b))) (places_in c)))
+          (same_of (InFrame c 0) (hits 1 x y) (covers ((x - l) / 4) ((y - t) / 4))
+          (λ p r. rw (place_copy p r) (and_same (unit_axis l p.x p.strip.strip_width (place_wide p r) x a) (unit_axis t p.y p.strip_height (place_high p r) y b))) (places_of c) (places_in c))
           ∙ covering ((x - l) / 4) ((y - t) / 4)
           ∙ rw (between_on l c.width x a, between_on t c.height y b) refl
 
