@@ -1,13 +1,15 @@
 /* Plans a background from C and prints the plan as the program bgplan does, one line an entry, then the end.
 
        cc plan.c $(pkg-config --cflags --libs visorlongan) -o plan
-       ./plan                   case L, a small copied background
-       ./plan RECORD            a file of 61 bytes: object 40, scissor 4 x 2, render mode 4, opcode 1, address 8, all big-endian
-       ./plan --step [RECORD]   the same lines, by a planner that is stepped
+       ./plan                       case L, a small copied background
+       ./plan RECORD                a file of 61 bytes: object 40, scissor 4 x 2, render mode 4, opcode 1, address 8, all big-endian
+       ./plan --step [RECORD]       the same lines, by a planner that is stepped
+       ./plan --cell X Y [RECORD]   without a plan: the image's column and row that one cell of a copied background shows, or that it is outside
 
-   Exit status: 0 planned, 1 refused (the verdict's sentence goes to standard error), 2 wrong use, 3 no memory. It compiles as C99 and as C++. */
+   Exit status: 0 planned or answered, 1 refused (the verdict's sentence goes to standard error), 2 wrong use, 3 no memory. It compiles as C99 and as C++. */
 #include <visorlongan.h>
 
+#include <errno.h>
 #include <inttypes.h>
 #include <stdio.h>
 #include <stdlib.h>
@@ -139,6 +141,34 @@ static int step(const uint8_t *record) {
     return 2;
 }
 
+/* One cell of a copied background. The scissor's words are those of a request, in the same order. */
+static int cell(const uint8_t *record, uint64_t column, uint64_t line) {
+    uint64_t request[VISOR_REQUEST_WORDS], sample[VISOR_SAMPLE_WORDS];
+    request_of(record, request);
+    if (request[VISOR_REQUEST_OPCODE] != VISOR_OPCODE_COPY) {
+        fprintf(stderr, "plan: only cells of copied backgrounds can be asked for\n");
+        return 2;
+    }
+    visor_sample(record, VISOR_COPY_BYTES, request + VISOR_REQUEST_ULX, VISOR_SCISSOR_WORDS, column, line, sample, VISOR_SAMPLE_WORDS);
+    if (sample[VISOR_SAMPLE_KIND] == VISOR_SAMPLE_REFUSED) {
+        fprintf(stderr, "plan: %s\n", visor_verdict_text(sample[VISOR_SAMPLE_VERDICT]));
+        return 1;
+    }
+    if (sample[VISOR_SAMPLE_KIND] == VISOR_SAMPLE_OUTSIDE) {
+        printf("outside\n");
+    } else {
+        printf("column %" PRIu64 ", row %" PRIu64 "\n", sample[VISOR_SAMPLE_COLUMN], sample[VISOR_SAMPLE_ROW]);
+    }
+    return 0;
+}
+
+static int read_number(const char *text, uint64_t *number) {
+    char *end;
+    errno = 0; /* strtoull tells only by it that a number has more than 64 bits */
+    *number = strtoull(text, &end, 10);
+    return errno == 0 && *text >= '0' && *text <= '9' && *end == '\0';
+}
+
 static int read_record(const char *path, uint8_t *record) {
     FILE *file = fopen(path, "rb");
     if (!file) return 0;
@@ -155,10 +185,14 @@ int main(int count, char **arguments) {
     }
     memcpy(record, CASE_L, RECORD_BYTES);
     int stepping = count > 1 && strcmp(arguments[1], "--step") == 0;
-    int records = count - 1 - stepping;
-    if (records > 1 || (records == 1 && !read_record(arguments[count - 1], record))) {
-        fprintf(stderr, "usage: plan [--step] [RECORD], a file of %d bytes\n", RECORD_BYTES);
+    int asking = count > 3 && strcmp(arguments[1], "--cell") == 0;
+    uint64_t column = 0, line = 0;
+    int right = !asking || (read_number(arguments[2], &column) && read_number(arguments[3], &line));
+    int records = count - 1 - (asking ? 3 : stepping);
+    if (!right || records > 1 || (records == 1 && !read_record(arguments[count - 1], record))) {
+        fprintf(stderr, "usage: plan [--step | --cell X Y] [RECORD], a file of %d bytes\n", RECORD_BYTES);
         return 2;
     }
+    if (asking) return cell(record, column, line);
     return stepping ? step(record) : plan(record);
 }

@@ -10,8 +10,9 @@
    aligned for their elements. The arrays that a call writes lie apart from each other and from those that it reads; nothing
    else touches them during the call. Any lengths and any values are fine: a call always ends, reads and writes inside the
    lengths that it is given, allocates nothing, and keeps nothing between calls, so threads may call at once.
-   visor_run, visor_count, visor_apply, visor_start, visor_step and visor_drift answer 0, or 1 where a length is not the one named
-   below; then they have changed nothing. visor_write_copy answers 0, or 2, 4 or 11 (visor_written); then it has changed nothing.
+   visor_run, visor_count, visor_apply, visor_start, visor_step, visor_drift and visor_sample answer 0, or 1 where a length is not
+   the one named below; then they have changed nothing. visor_write_copy answers 0, or 2, 4 or 11 (visor_written); then it has
+   changed nothing.
 
    NUMBERS. A word is a uint64_t. A signed number is stored modulo 2^64: (int64_t)word gives it back. Units: a *quarter* is a
    quarter of a texel or of a pixel (10.2), a *thirty-second* is one of a texel (10.5), a *scale* has 1,024 as 1 (5.10). */
@@ -28,9 +29,9 @@ extern "C" {
 /* ---- The version: of this header, and of the archive that is linked. They belong together if VISOR_VERSION == visor_version(). */
 
 #define VISOR_VERSION_MAJOR 0
-#define VISOR_VERSION_MINOR 7
-#define VISOR_VERSION_PATCH 1
-#define VISOR_VERSION_TEXT "0.7.1"
+#define VISOR_VERSION_MINOR 8
+#define VISOR_VERSION_PATCH 0
+#define VISOR_VERSION_TEXT "0.8.0"
 #define VISOR_VERSION (VISOR_VERSION_MAJOR * 65536 + VISOR_VERSION_MINOR * 256 + VISOR_VERSION_PATCH)
 
 uint64_t visor_version(void);
@@ -277,6 +278,34 @@ static inline const char *visor_written_text(uint64_t number) {
     }
 }
 
+/* ---- What one cell of a copy shows (16): the scissor's words, and the answer of visor_sample. */
+
+#define VISOR_SCISSOR_WORDS 4
+
+/* The scissor alone: the words of a request from VISOR_REQUEST_ULX on, in their order. */
+enum visor_scissor {
+    VISOR_SCISSOR_ULX = 0,
+    VISOR_SCISSOR_ULY = 1,
+    VISOR_SCISSOR_LRX = 2,
+    VISOR_SCISSOR_LRY = 3
+};
+
+#define VISOR_SAMPLE_WORDS 3
+
+/* The answer; its words that are not named here are 0. */
+enum visor_sampled {
+    VISOR_SAMPLE_KIND = 0,   /* VISOR_SAMPLE_TEXEL, VISOR_SAMPLE_OUTSIDE or VISOR_SAMPLE_REFUSED */
+    VISOR_SAMPLE_COLUMN = 1, /* of a texel: its column in the image, from 0 */
+    VISOR_SAMPLE_ROW = 2,    /* of a texel: its row in the image, from 0 */
+    VISOR_SAMPLE_VERDICT = 1 /* of a refusal: VISOR_VERDICT_SHORT, _SCISSOR, _OBJECT or _COPY */
+};
+
+enum visor_sample_kind {
+    VISOR_SAMPLE_TEXEL = 0,
+    VISOR_SAMPLE_OUTSIDE = 1, /* the cell is none of the clipped frame */
+    VISOR_SAMPLE_REFUSED = 2
+};
+
 /* ---- The functions. */
 
 /* A whole run: plans the request. The entries stand in plan from its first word on, VISOR_ENTRY_WORDS each; end has the four
@@ -358,6 +387,23 @@ uint64_t visor_drift(const uint8_t *object, size_t object_bytes, const uint64_t 
    Lengths: out may have any. */
 uint64_t visor_write_copy(uint64_t width, uint64_t height, uint64_t fmt, uint64_t siz, uint32_t pointer, uint8_t *out,
                           size_t out_bytes);
+
+/* What one cell of a copied background shows (16): sample becomes VISOR_SAMPLE_TEXEL with a column and a row of the image. column and
+   line count the cells of the clipped frame across and down, from 0 at its left and upper edge; a cell is 4 by 4 quarters (7.12). A
+   cell that the clipped frame does not have is answered by VISOR_SAMPLE_OUTSIDE, and of an empty frame every cell is. column and
+   line may be any numbers. The object is read as one of VISOR_OPCODE_COPY, whatever the host plans it with.
+
+   REFUSALS, in this order and before VISOR_SAMPLE_OUTSIDE: VISOR_VERDICT_SHORT, VISOR_VERDICT_SCISSOR, VISOR_VERDICT_OBJECT,
+   VISOR_VERDICT_COPY, where a copy of this object under this scissor is refused by them. No other verdict comes: where the plan ends
+   by VISOR_VERDICT_TOO_BIG, VISOR_VERDICT_ADDRESS or VISOR_VERDICT_FULL, the cells are answered all the same.
+
+   BESIDE A PLAN it is proved (16.4): of each cell of a finished copy plan, the one rectangle that meets it shows there, by the load
+   before it, this column and row, if the load has at most 1,024 columns or the frame is not flipped. So a host may read them off:
+   cell i of a rectangle shows number uls / 32 + i of the load, where 0 is the load's first column, -1 is the first too and -2 the
+   second, counted down; line j of it shows the load's first row plus j.
+   Lengths: VISOR_SCISSOR_WORDS, VISOR_SAMPLE_WORDS; object may have any. */
+uint64_t visor_sample(const uint8_t *object, size_t object_bytes, const uint64_t *scissor, size_t scissor_words, uint64_t column,
+                      uint64_t line, uint64_t *sample, size_t sample_words);
 
 #ifdef __cplusplus
 }

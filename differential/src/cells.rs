@@ -11,7 +11,7 @@ use crate::record::{Record, COPY};
 use crate::run::Answer;
 
 /// Units of a cell, across or down.
-const CELL: i64 = 4;
+pub const CELL: i64 = 4;
 /// The widest frame there is, in cells.
 const WIDEST: i64 = 1023;
 /// A frame of so many cells is called large.
@@ -71,9 +71,9 @@ pub enum Count {
 
 /// Units or cells, across and down: those from the first corner to before the second.
 #[derive(Clone, Copy, Debug)]
-struct Area {
-    from: [i64; 2],
-    to: [i64; 2],
+pub struct Area {
+    pub from: [i64; 2],
+    pub to: [i64; 2],
 }
 
 impl Area {
@@ -81,11 +81,17 @@ impl Area {
         (0..2).any(|axis| self.from[axis] >= self.to[axis])
     }
 
+    /// How many points it has, which is not empty.
+    pub fn number(&self) -> usize {
+        let [across, down] = [0, 1].map(|axis| self.to[axis] - self.from[axis]);
+        (across * down) as usize
+    }
+
     fn has(&self, point: [i64; 2]) -> bool {
         (0..2).all(|axis| (self.from[axis]..self.to[axis]).contains(&point[axis]))
     }
 
-    fn points(self) -> impl Iterator<Item = [i64; 2]> {
+    pub fn points(self) -> impl Iterator<Item = [i64; 2]> {
         let across = self.from[0]..self.to[0];
         (self.from[1]..self.to[1]).flat_map(move |y| across.clone().map(move |x| [x, y]))
     }
@@ -98,7 +104,7 @@ impl Area {
 }
 
 /// The units of a rectangle: its ends are inclusive and name cells (SPECIFICATION 7.9).
-fn covered(rectangle: &Entry) -> Area {
+pub fn covered(rectangle: &Entry) -> Area {
     let [ulx, uly, lrx, lry] = [2, 3, 4, 5].map(|n| rectangle[n] as i64);
     Area {
         from: [ulx, uly],
@@ -106,20 +112,20 @@ fn covered(rectangle: &Entry) -> Area {
     }
 }
 
-fn half(record: &Record, at: usize) -> u16 {
+pub fn half(record: &Record, at: usize) -> u16 {
     u16::from_be_bytes([record.object[at], record.object[at + 1]])
 }
 
 /// The clipped frame.
-struct Frame {
+pub struct Frame {
     /// `left` and `top`, in units.
-    corner: [i64; 2],
+    pub corner: [i64; 2],
     /// Its cells across and down: 0 where `width` or `height` is negative.
-    cells: [i64; 2],
+    pub cells: [i64; 2],
 }
 
 impl Frame {
-    fn clipped(record: &Record) -> Frame {
+    pub fn clipped(record: &Record) -> Frame {
         let mut frame = Frame {
             corner: [0; 2],
             cells: [0; 2],
@@ -164,7 +170,7 @@ impl Frame {
     }
 
     /// The cells that share a unit with an area that is not empty.
-    fn met(&self, units: &Area) -> Area {
+    pub fn met(&self, units: &Area) -> Area {
         let cell = |axis: usize, unit: i64| (unit - self.corner[axis]).div_euclid(CELL);
         Area {
             from: [0, 1].map(|axis| cell(axis, units.from[axis])),

@@ -2,8 +2,9 @@
 //! plan.
 
 use crate::cells;
+use crate::engine::{cells_agree, shows, Engine};
 use crate::entry::{Entry, IMAGE, LOAD, RECTANGLE, SIZE, TILE};
-use crate::record::{Bank, Record, COPY, SCALED};
+use crate::record::{Bank, Record, COPY, OBJECT_BYTES, SCALED};
 use crate::run::{Answer, Settings};
 use std::fmt::Write;
 
@@ -203,6 +204,9 @@ impl Claims {
         if record.opcode == COPY {
             self.check_copy(number, record, answer);
         }
+        if cells::finished_copy(record, answer) {
+            self.check_cells(number, record, answer);
+        }
         if record.opcode == SCALED && answer.plan.notes.slices.is_some() {
             self.check_scaled(number, record, answer);
         }
@@ -219,20 +223,31 @@ impl Claims {
                 holds,
             );
         }
-        if cells::finished_copy(record, answer) {
-            self.note(
-                "copy, finished: one rectangle meets each cell, and nothing else is covered",
-                number,
-                record,
-                cells::cells_once(record, entries).is_ok(),
-            );
-            self.note(
-                "copy, finished: each load is inside the image and fits the capacity",
-                number,
-                record,
-                cells::loads_inside(record, entries).is_ok(),
-            );
-        }
+    }
+
+    fn check_cells(&mut self, number: usize, record: &Record, answer: &Answer) {
+        let entries = &answer.plan.entries;
+        self.note(
+            "copy, finished: one rectangle meets each cell, and nothing else is covered",
+            number,
+            record,
+            cells::cells_once(record, entries).is_ok(),
+        );
+        self.note(
+            "copy, finished: each load is inside the image and fits the capacity",
+            number,
+            record,
+            cells::loads_inside(record, entries).is_ok(),
+        );
+        let engine = Engine::of(record, OBJECT_BYTES);
+        let agree = cells_agree(record, entries, shows, |cell| engine.answers(cell));
+        self.note(
+            "copy, finished: each cell shows the engine's column and row, which its load has, but \
+             in flipped loads of more than 1,024 columns",
+            number,
+            record,
+            agree.is_ok(),
+        );
     }
 
     fn check_scaled(&mut self, number: usize, record: &Record, answer: &Answer) {

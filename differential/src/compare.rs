@@ -10,18 +10,21 @@
 //! words and, now and then, into one of any length and one of no words. Then it is stepped to its
 //! end and beyond, with the planner of the record before it stepped in between; and its rectangles
 //! are measured into buffers of three lengths. The cells of its frame are counted where it is a
-//! finished copy plan. One in four of those with a load comes again, with its image so near the last
-//! address that one of its loads ends there. Beside one in sixteen a copy object is written from a
-//! random picture, and its plans are compared as those of the records.
+//! finished copy plan, and each of them is asked for by itself; of other records a few cells are. One
+//! in four of those with a load comes again, with its image so near the last address that one of its
+//! loads ends there. Beside one in sixteen a copy object is written from a random picture, and its
+//! plans are compared as those of the records.
 
 #![allow(dead_code, unused_imports, unexpected_cfgs)]
 
 mod broken;
+mod broken_samples;
 mod case;
 mod cases;
 mod cells;
 mod diag;
 mod edges;
+mod engine;
 mod entry;
 mod fnv;
 mod generate;
@@ -36,6 +39,7 @@ mod proved;
 mod random;
 mod record;
 mod run;
+mod sampled;
 mod scene;
 mod spans;
 mod stepped;
@@ -62,7 +66,7 @@ use stepped::Planned;
 
 const BLOCK: u64 = 1_000;
 /// So many records show every place where a load is refused for its span, all that is counted of
-/// pictures, and finished copy plans of every kind.
+/// pictures, finished copy plans of every kind, and all that is counted of single cells.
 const ALL_PLACES: u64 = 200_000;
 const MODES: [(&str, Mode); 8] = [
     ("mixed", Mode::Mixed),
@@ -105,6 +109,7 @@ struct Tally {
     nearest: [u64; 2],
     pictures: pictures::Counts,
     cells: cells::Counts,
+    sampled: sampled::Counts,
 }
 
 fn mode(record: &Record) -> usize {
@@ -147,12 +152,14 @@ impl Tally {
             .spans
             .iter_mut()
             .chain(&mut self.pictures)
-            .chain(&mut self.cells);
+            .chain(&mut self.cells)
+            .chain(&mut self.sampled);
         let theirs = other
             .spans
             .iter()
             .chain(&other.pictures)
-            .chain(&other.cells);
+            .chain(&other.cells)
+            .chain(&other.sampled);
         for (mine, theirs) in mine.zip(theirs) {
             *mine += theirs;
         }
@@ -176,6 +183,16 @@ impl Tally {
             counted(Count::Plans),
             counted(Count::Cells),
             counted(Count::Loads)
+        );
+        let sampled = |count: sampled::Count| self.sampled[count as usize];
+        println!(
+            "{} of these cells are answered as their rectangles and loads show them; loads left \
+             out, flipped and of more than 1,024 columns: {}, of {} cells, {} of them answered \
+             otherwise than shown",
+            sampled(sampled::Count::Cells),
+            sampled(sampled::Count::LeftOut),
+            sampled(sampled::Count::LeftOutCells),
+            sampled(sampled::Count::Otherwise)
         );
     }
 
@@ -208,10 +225,16 @@ impl Tally {
                 self.apt[kind], self.nearest[kind]
             );
         }
-        let (pictures, cells) = (pictures::COUNTED, cells::COUNTED.map(|(name, _)| name));
+        let (pictures, cells) = (names(pictures::COUNTED), names(cells::COUNTED));
         print_counts("copy objects of pictures:", pictures, &self.pictures);
         print_counts("finished copy plans:", cells, &self.cells);
+        let sampled = names(sampled::COUNTED);
+        print_counts("single cells:", sampled, &self.sampled);
     }
+}
+
+fn names<const N: usize>(counted: [(&'static str, u64); N]) -> [&'static str; N] {
+    counted.map(|(name, _)| name)
 }
 
 fn print_counts<const N: usize>(title: &str, names: [&str; N], numbers: &[u64; N]) {
@@ -279,6 +302,7 @@ fn compare(
         return Err(text);
     }
     cells::counted(&case.record, &whole, &mut tally.cells)?;
+    sampled::sampled(case, &whole, &mut tally.sampled)?;
     tally.records += 1;
     tally.short_objects += u64::from(case.object.len() < OBJECT_BYTES);
     let mut random = Random(case.draw);
@@ -673,12 +697,15 @@ fn unmet(tally: &Tally, records: u64) -> Option<String> {
     let spans = spans::PLACES.iter().zip(tally.spans);
     let spans = spans.map(|(name, n)| ("no load was refused for its span here", name, n, 1));
     let pictures = pictures::COUNTED.iter().zip(tally.pictures);
-    let pictures = pictures.map(|(name, n)| ("no object of a picture", name, n, 1));
+    let pictures = pictures.map(|((name, least), n)| ("too few of pictures", name, n, *least));
     let cells = cells::COUNTED.iter().zip(tally.cells);
     let cells = cells.map(|((name, least), n)| ("too few of finished copy plans", name, n, *least));
+    let sampled = sampled::COUNTED.iter().zip(tally.sampled);
+    let sampled = sampled.map(|((name, least), n)| ("too few of single cells", name, n, *least));
     let unmet: String = spans
         .chain(pictures)
         .chain(cells)
+        .chain(sampled)
         .filter(|&(_, _, number, least)| number < least)
         .map(|(what, name, number, _)| format!("{what}: {name}, {number}\n"))
         .collect();
@@ -753,7 +780,9 @@ fn main() {
     let threads = arguments.get(2).map_or(2, |n| number(n) as usize).max(1);
     let refused = refused_lengths().or_else(|| stepped::refused_calls().err());
     let refused = refused.or_else(|| measured::refused_calls().err());
-    if let Some(text) = refused.or_else(|| broken::found().err()) {
+    let refused = refused.or_else(|| sampled::refused_calls().err());
+    let broken = refused.or_else(|| broken::found().err());
+    if let Some(text) = broken.or_else(|| broken_samples::found().err()) {
         finish(Some(text));
     }
     let names: Vec<&str> = MODES.iter().map(|(name, _)| *name).collect();

@@ -8,6 +8,7 @@ mod claims;
 mod coverage;
 mod diag;
 mod edges;
+mod engine;
 mod entry;
 mod fnv;
 mod generate;

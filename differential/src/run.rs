@@ -101,9 +101,8 @@ fn rust_verdict(outcome: &Outcome, copy: bool) -> u64 {
     }
 }
 
-/// Verdicts 4, 5 and 6 by the wording of SPECIFICATION 4.4, 4.5 and 8.6, to hold against the
-/// Rust's.
-fn document_verdict(bg: &ObjBg, copy: bool, plan: &Plan) -> Option<u64> {
+/// Verdicts 4 and 5 by the wording of SPECIFICATION 4.4 and 4.5.
+pub fn object_verdict(bg: &ObjBg, copy: bool) -> Option<u64> {
     if bg.image_w == 0
         || bg.image_h == 0
         || bg.frame_w == 0
@@ -115,22 +114,24 @@ fn document_verdict(bg: &ObjBg, copy: bool, plan: &Plan) -> Option<u64> {
         return Some(4);
     }
     let product = u64::from(bg.tmem_size) * 65_536 + u64::from(bg.tmem_load_sh);
-    if copy
+    let refused = copy
         && (bg.image_load != 0xfff4
             || bg.tmem_h < 4
             || bg.image_w < 4
             || bg.image_h < 4
             || bg.tmem_size_w == 0
             || product != u64::from(bg.tmem_h) * u64::from(bg.tmem_size_w)
-            || bg.image_flip > 1)
-    {
-        return Some(5);
-    }
+            || bg.image_flip > 1);
+    refused.then_some(5)
+}
+
+/// Verdicts 4, 5 and 6 by the wording of SPECIFICATION 4.4, 4.5 and 8.6, to hold against the
+/// Rust's.
+fn document_verdict(bg: &ObjBg, copy: bool, plan: &Plan) -> Option<u64> {
     // Absent slices: copy mode, or an empty frame, which answers before 6 is tried.
-    match plan.notes.slices {
-        Some(s) if bg.image_h < 4 || s.image_rows <= 0 || s.stride == 0 => Some(6),
-        _ => None,
-    }
+    let slices = plan.notes.slices;
+    let refused = slices.is_some_and(|s| bg.image_h < 4 || s.image_rows <= 0 || s.stride == 0);
+    object_verdict(bg, copy).or(refused.then_some(6))
 }
 
 pub fn run(record: &Record, settings: &Settings, sink: Sink) -> Answer {

@@ -3,7 +3,8 @@
 use crate::entry::ENTRY_WORDS;
 use crate::library;
 pub use crate::library::{
-    version, BANK_WORDS, DRIFT_WORDS, END_WORDS, REQUEST_WORDS, STATE_WORDS, STEP_WORDS, TOLD_WORDS,
+    version, BANK_WORDS, DRIFT_WORDS, END_WORDS, REQUEST_WORDS, SAMPLE_WORDS, SCISSOR_WORDS,
+    STATE_WORDS, STEP_WORDS, TOLD_WORDS,
 };
 use crate::request::Mode;
 
@@ -78,6 +79,19 @@ pub fn write_copy(
     }
 }
 
+/// The kind of what a cell shows, and the kind's numbers.
+pub fn sample(
+    object: &[u8],
+    scissor: &[u64; SCISSOR_WORDS],
+    column: u64,
+    line: u64,
+) -> [u64; SAMPLE_WORDS] {
+    let mut sample = [0; SAMPLE_WORDS];
+    let status = library::sample(object, scissor, column, line, &mut sample);
+    debug_assert_eq!(status, 0, "the library refused lengths that it defines");
+    sample
+}
+
 #[cfg(test)]
 mod tests {
     use super::*;
@@ -120,6 +134,18 @@ mod tests {
             let status = library::drift(&[0; 40], &request, &mut drift, &mut told);
             assert_eq!(status, 1);
             assert!([drift, told].concat().iter().all(|word| *word == 77));
+        }
+    }
+
+    #[test]
+    fn wrong_lengths_of_a_sample_are_refused_and_nothing_is_written() {
+        for (scissor, sample) in [(3, 3), (5, 3), (4, 2), (4, 4), (7, 3), (0, 0)] {
+            for object in [&[0; 40][..], &[]] {
+                let (scissor, mut sample) = (vec![0; scissor], vec![77; sample]);
+                let status = library::sample(object, &scissor, 0, 0, &mut sample);
+                assert_eq!(status, 1);
+                assert!(sample.iter().all(|word| *word == 77));
+            }
         }
     }
 

@@ -117,6 +117,13 @@
 //! # Ok::<(), Box<dyn std::error::Error>>(())
 //! ```
 //!
+//! # What a single cell shows
+//!
+//! [`sample`] takes one cell of a copied background's clipped frame and gives the image's column and
+//! row that it shows, without a plan: to check a renderer with, or to answer whoever asks of one
+//! pixel. Of every finished plan it is proved that rectangles and loads give the same, but for flipped
+//! loads of more than 1,024 columns.
+//!
 //! # Without an allocator
 //!
 //! The crate needs no `std`. [`Buffer`], which owns its memory, is behind the feature `alloc`, which
@@ -145,6 +152,7 @@ mod picture;
 mod plan;
 mod planner;
 mod request;
+mod sample;
 mod verdict;
 
 pub use bank::{Bank, Tile};
@@ -159,6 +167,7 @@ pub use picture::{copy_object, NoObject};
 pub use plan::{count, run, Entries, Plan, Steps};
 pub use planner::Planner;
 pub use request::{Mode, Record, Request, Scissor, BG_1CYC, BG_COPY};
+pub use sample::{sample, Sample};
 pub use verdict::{End, NoVerdict, Refusal, Verdict};
 
 /// The version of the linked library: major, minor, patch. It is this crate's.

@@ -7,6 +7,8 @@ pub const STATE_WORDS: usize = 39;
 pub const STEP_WORDS: usize = 11;
 pub const DRIFT_WORDS: usize = 5;
 pub const TOLD_WORDS: usize = 2;
+pub const SCISSOR_WORDS: usize = 4;
+pub const SAMPLE_WORDS: usize = 3;
 
 extern "C" {
     fn visor_run(
@@ -65,6 +67,16 @@ extern "C" {
         pointer: u32,
         out: *mut u8,
         out_bytes: usize,
+    ) -> u64;
+    fn visor_sample(
+        object: *const u8,
+        object_bytes: usize,
+        scissor: *const u64,
+        scissor_words: usize,
+        column: u64,
+        line: u64,
+        sample: *mut u64,
+        sample_words: usize,
     ) -> u64;
     fn visor_version() -> u64;
 }
@@ -192,6 +204,25 @@ pub fn write_copy(
             pointer,
             out.as_mut_ptr(),
             out.len(),
+        )
+    }
+}
+
+/// What one cell of a copy shows, by its column and line in the clipped frame, in the words of
+/// `sample`: 0 with a column and a row of the image, 1 outside, or 2 with a verdict. 0, or 1 where
+/// scissor or sample has the wrong number of words, which changes nothing.
+pub fn sample(object: &[u8], scissor: &[u64], column: u64, line: u64, sample: &mut [u64]) -> u64 {
+    // SAFETY: as for `run`.
+    unsafe {
+        visor_sample(
+            object.as_ptr(),
+            object.len(),
+            scissor.as_ptr(),
+            scissor.len(),
+            column,
+            line,
+            sample.as_mut_ptr(),
+            sample.len(),
         )
     }
 }

@@ -1,6 +1,6 @@
 //! What a plan is made from.
 
-use crate::ffi::REQUEST_WORDS;
+use crate::ffi::{REQUEST_WORDS, SCISSOR_WORDS};
 use crate::length::WrongLength;
 
 /// The opcode of a scaled background (`gSPBgRect1Cyc`).
@@ -58,6 +58,10 @@ impl Scissor {
     pub const fn new(ulx: i32, uly: i32, lrx: i32, lry: i32) -> Scissor {
         Scissor { ulx, uly, lrx, lry }
     }
+
+    pub(crate) fn words(self) -> [u64; SCISSOR_WORDS] {
+        [self.ulx, self.uly, self.lrx, self.lry].map(|edge| i64::from(edge) as u64)
+    }
 }
 
 /// A background command with everything that its plan depends on.
@@ -113,13 +117,13 @@ impl<'a> Request<'a> {
     }
 
     pub(crate) fn words(&self) -> [u64; REQUEST_WORDS] {
-        let edge = |edge: i32| i64::from(edge) as u64;
+        let [ulx, uly, lrx, lry] = self.scissor.words();
         [
             self.opcode.into(),
-            edge(self.scissor.ulx),
-            edge(self.scissor.uly),
-            edge(self.scissor.lrx),
-            edge(self.scissor.lry),
+            ulx,
+            uly,
+            lrx,
+            lry,
             self.render_mode.into(),
             self.address,
         ]

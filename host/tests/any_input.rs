@@ -5,9 +5,9 @@ mod random;
 
 use random::Random;
 use visorlongan::{
-    copy_object, count, drift, run, version, Bank, Buffer, Drift, Entry, Kind, Mode, NoObject,
-    Object, Pixels, Plan, Planner, Quarters, Record, Refusal, Request, Scale, Scissor,
-    ThirtySeconds, Tile, Verdict, WrongLength, ENTRY_WORDS,
+    copy_object, count, drift, run, sample, version, Bank, Buffer, Drift, Entry, Kind, Mode,
+    NoObject, Object, Pixels, Plan, Planner, Quarters, Record, Refusal, Request, Sample, Scale,
+    Scissor, ThirtySeconds, Tile, Verdict, WrongLength, ENTRY_WORDS,
 };
 
 const MODES: [Mode; 2] = [Mode::Copy, Mode::Scaled];
@@ -396,4 +396,65 @@ fn one_row_more_is_too_big() {
         met += 1;
     }
     assert!(met > 10_000, "{met}");
+}
+
+/// Whether a cell is answered as the plan's end and the object's fields allow.
+fn is_answer(answer: Sample, object: &[u8], verdict: Verdict, empty: bool) -> bool {
+    let refused = [
+        Verdict::Short,
+        Verdict::Scissor,
+        Verdict::Object,
+        Verdict::Copy,
+    ];
+    match answer {
+        _ if refused.contains(&verdict) => answer == Sample::Refused(verdict),
+        Sample::Refused(_) => false,
+        Sample::Outside => true,
+        Sample::Texel { column, row } => {
+            let fields = Object::decode(object, Mode::Copy).expect("40 bytes");
+            let [columns, rows] = [fields.image_w, fields.image_h].map(|q| q.whole() as u64);
+            !empty && column < columns && row < rows
+        }
+    }
+}
+
+/// A cell inside most frames, or any.
+fn cell(r: &mut Random) -> [u64; 2] {
+    let far = r.once_in(4);
+    [(); 2].map(|()| match far {
+        true => r.next() >> r.from(0, 63),
+        false => r.from(0, 200) as u64,
+    })
+}
+
+/// Any cell of any object under any scissor: it is refused where a copy is, and by the same verdict;
+/// else it is outside, or a texel of the image. A plan with entries has a first cell.
+#[test]
+fn cells_of_every_kind() {
+    let mut r = Random(10);
+    let (mut met, mut outside, mut texels) = ([0; 11], 0, 0);
+    for _ in 0..150_000 {
+        let object = r.object();
+        let Request {
+            scissor, address, ..
+        } = r.request(&object);
+        let end = count(&Request::copy(&object, scissor, address));
+        met[end.verdict.number() as usize] += 1;
+        let empty = end.entries == 0;
+        let first = sample(&object, scissor, 0, 0);
+        assert!(empty != matches!(first, Sample::Texel { .. }), "{object:?}");
+        let [column, line] = cell(&mut r);
+        let answer = sample(&object, scissor, column, line);
+        let right = is_answer(answer, &object, end.verdict, empty);
+        assert!(
+            right,
+            "{answer:?} of {column} {line}: {object:?} {scissor:?}"
+        );
+        outside += u32::from(answer == Sample::Outside);
+        texels += u32::from(matches!(answer, Sample::Texel { .. }));
+    }
+    println!("verdicts met: {met:?}; {outside} cells outside, {texels} texels");
+    let occurred = [0, 2, 3, 4, 5, 7, 9].iter().all(|n| met[*n] > 100);
+    assert!(occurred && met[1] + met[6] + met[8] + met[10] == 0);
+    assert!(outside > 5_000 && texels > 5_000, "{outside} {texels}");
 }

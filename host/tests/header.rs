@@ -129,6 +129,50 @@ static void written(uint64_t *request) {
     printf(" %d\n", kept);
 }
 
+static uint64_t cell[VISOR_SAMPLE_WORDS];
+
+static void sample(const uint8_t *object, size_t bytes, const uint64_t *scissor, uint64_t column) {
+    printf("%d ", (int)visor_sample(object, bytes, scissor, VISOR_SCISSOR_WORDS, column, 0, cell, VISOR_SAMPLE_WORDS));
+    printf("%d:%d,%d ", (int)cell[VISOR_SAMPLE_KIND], (int)cell[VISOR_SAMPLE_COLUMN], (int)cell[VISOR_SAMPLE_ROW]);
+}
+
+/* Case L from column 12 on, two cells and a line of it left out: its cells at the wrap, flipped too, and cells outside. */
+static void sampled(uint8_t *object) {
+    uint64_t scissor[VISOR_SCISSOR_WORDS];
+    scissor[VISOR_SCISSOR_ULX] = 2; scissor[VISOR_SCISSOR_ULY] = 1;
+    scissor[VISOR_SCISSOR_LRX] = 320; scissor[VISOR_SCISSOR_LRY] = 240;
+    object[0] = 1; object[1] = 128;
+    sample(object, VISOR_COPY_BYTES, scissor, 1);
+    sample(object, VISOR_COPY_BYTES, scissor, 2);
+    object[27] = 1;
+    sample(object, VISOR_COPY_BYTES, scissor, 9);
+    sample(object, VISOR_COPY_BYTES, scissor, 10);
+    printf("%d ", cell[VISOR_SAMPLE_KIND] == VISOR_SAMPLE_TEXEL);
+    sample(object, VISOR_COPY_BYTES, scissor, 14);
+    printf("%d ", cell[VISOR_SAMPLE_KIND] == VISOR_SAMPLE_OUTSIDE);
+    sample(object, VISOR_COPY_BYTES, scissor, UINT64_MAX);
+    printf("%d\n", VISOR_REQUEST_ULX + VISOR_SCISSOR_LRY == VISOR_REQUEST_LRY);
+}
+
+/* Refusals in their order, for a cell that is outside, and calls that change nothing: by their lengths, or without arrays. */
+static void no_sample(uint8_t *object, uint64_t *request) {
+    uint64_t *scissor = request + VISOR_REQUEST_ULX;
+    object[27] = 2;
+    sample(object, VISOR_COPY_BYTES, scissor, UINT64_MAX);
+    printf("%d ", cell[VISOR_SAMPLE_KIND] == VISOR_SAMPLE_REFUSED && cell[VISOR_SAMPLE_VERDICT] == VISOR_VERDICT_COPY);
+    object[22] = 5;
+    sample(object, VISOR_COPY_BYTES, scissor, UINT64_MAX);
+    scissor[VISOR_SCISSOR_LRX] = 1024;
+    sample(object, VISOR_COPY_BYTES, scissor, UINT64_MAX);
+    sample(NULL, 0, scissor, UINT64_MAX);
+    for (int i = 0; i < VISOR_SAMPLE_WORDS; i++) cell[i] = 77;
+    printf("%d", (int)visor_sample(object, VISOR_COPY_BYTES, scissor, VISOR_SCISSOR_WORDS - 1, 0, 0, cell, VISOR_SAMPLE_WORDS));
+    printf(" %d", (int)visor_sample(object, VISOR_COPY_BYTES, scissor, VISOR_SCISSOR_WORDS, 0, 0, cell, VISOR_SAMPLE_WORDS - 1));
+    printf(" %d", (int)visor_sample(NULL, 0, NULL, 0, 0, 0, cell, VISOR_SAMPLE_WORDS));
+    printf(" %d", (int)visor_sample(NULL, 0, NULL, 0, 0, 0, NULL, 0));
+    printf(" %d\n", cell[0] + cell[1] + cell[2] == 3 * 77);
+}
+
 int main(void) {
     uint8_t object[VISOR_COPY_BYTES] = {0};
     object[3] = 64; object[7] = 64; object[11] = 8; object[15] = 8;
@@ -144,6 +188,8 @@ int main(void) {
     stepped(object, request);
     drifted(request);
     written(request);
+    sampled(object);
+    no_sample(object, request);
     for (uint64_t verdict = 0; verdict <= VISOR_VERDICT_FULL + 1; verdict++) printf("%s\n", visor_verdict_text(verdict));
     for (uint64_t number = 0; number <= VISOR_WRITTEN_PICTURE + 1; number++) printf("%s\n", visor_written_text(number));
     return 0;
@@ -165,6 +211,8 @@ fn expected() -> String {
         "0 40 1 6 1 -368 -2022 1000",
         "0 5 6 24 77 0 0 201 40 480",
         "2 2 4 4 11 11 11 41",
+        "0 0:15,1 0 0:0,1 0 0:0,1 0 0:15,1 1 0 1:0,0 1 0 1:0,0 1",
+        "0 2:5,0 1 0 2:4,0 0 2:3,0 0 2:2,0 1 1 1 1 1",
     ];
     lines.extend(Verdict::ALL.iter().map(|verdict| verdict.sentence()));
     lines.push("This number is no verdict.");

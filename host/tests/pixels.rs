@@ -1,19 +1,24 @@
 //! Plans by their pixels: the example's loop draws them on a small machine, and each pixel shows the
-//! texel that the copy rule says, or a row within the limits on drift. Copy plans also by their
-//! entries alone: each cell of the clipped frame is met once, and loads lie inside the image.
+//! texel that the engine for single cells says, or a row within the limits on drift. Copy plans also
+//! by their entries alone: each cell of the clipped frame is met once and shows by its rectangle and
+//! load what the engine says, and loads lie inside the image.
 
 #[allow(dead_code)]
 #[path = "../examples/fast3d.rs"]
 mod fast3d;
 mod random;
+#[allow(dead_code)]
+#[path = "../visor/reading.rs"]
+mod reading;
 
 use fast3d::machine::Machine;
 use fast3d::{bg_1cyc, bg_copy, Ctx};
 use random::Random;
+use reading::{columns, is_too_wide, Reading};
 use std::ops::Range;
 use visorlongan::{
-    Bank, Buffer, Entry, Kind, Load, Mode, Object, Quarters, Rect, Request, Scissor, SetTile,
-    Verdict,
+    sample, Bank, Buffer, Entry, Kind, Load, Mode, Object, Quarters, Rect, Request, Sample,
+    Scissor, SetTile, Verdict,
 };
 
 const ADDRESS: u64 = 1 << 20;
@@ -49,44 +54,25 @@ fn capacity(fmt: u8, siz: u8) -> i64 {
     }
 }
 
-/// The image's column and row that a cell of the clipped frame shows, by the copy rule.
-fn copy_rule(object: &Object, [left, top, ..]: [i64; 4], cell: i64, line: i64) -> (u64, u64) {
-    let skipped = (left - i64::from(object.frame_x.0)) / 4;
-    let above = (top - i64::from(object.frame_y.0)) / 4;
-    let start = i64::from(object.image_x.whole());
-    let column = if object.image_flip == 1 {
-        start + i64::from(object.frame_w.whole()) - 1 - skipped - cell
-    } else {
-        start + skipped + cell
-    };
-    let row = i64::from(object.image_y.whole()) + above + line;
-    let (columns, rows) = (object.image_w.whole(), object.image_h.whole());
-    let column = column.rem_euclid(columns.into());
-    (column as u64, row.rem_euclid(rows.into()) as u64)
-}
-
-/// Pixels of the clipped frame that are not drawn once and by the rule, and pixels drawn elsewhere.
+/// Cells that are not drawn once and with the texel that the engine says, and pixels drawn elsewhere.
 /// What stands of a plan that was refused may leave cells out.
 fn copy_faults(machine: &Machine, copied: &Copied) -> usize {
-    let frame @ [left, top, width, height] = copied.frame();
+    let [left, top, ..] = copied.frame().map(|number| number.div_euclid(4));
     let object = &copied.object;
     let columns = object.image_w.whole() as u64;
-    let fault = |(x, y, pixel): (i32, i32, fast3d::machine::Pixel)| {
-        let (cell, line) = (
-            i64::from(x) - left.div_euclid(4),
-            i64::from(y) - top.div_euclid(4),
-        );
-        if cell < 0 || cell >= width || line < 0 || line >= height {
-            return pixel.drawn > 0;
-        }
-        if pixel.drawn == 0 {
-            return copied.finished;
-        }
-        let (column, row) = copy_rule(object, frame, cell, line);
-        let shown = texel(columns, object.image_siz, column, row);
-        pixel.drawn > 1 || pixel.shows != Some(shown)
-    };
-    machine.outside + machine.pixels().filter(|&p| fault(p)).count()
+    let (mut faults, mut inside) = (machine.outside, 0);
+    for ([cell, line], [column, row]) in copied.cells() {
+        let pixel = machine.pixel((left + cell) as i32, (top + line) as i32);
+        let right = match pixel.drawn {
+            0 => !copied.finished,
+            1 => pixel.shows == Some(texel(columns, object.image_siz, column, row)),
+            _ => false,
+        };
+        faults += usize::from(!right);
+        inside += usize::from(pixel.drawn > 0);
+    }
+    let drawn = machine.pixels().filter(|(.., pixel)| pixel.drawn > 0);
+    faults + drawn.count() - inside
 }
 
 /// The texels of a row that one word of a tile's line has room for.
@@ -209,6 +195,22 @@ impl Copied {
         [left, top, width, height]
     }
 
+    /// What the engine says of a cell of the clipped frame.
+    fn sampled(&self, cell: i64, line: i64) -> Sample {
+        sample(&self.bytes, self.scissor, cell as u64, line as u64)
+    }
+
+    /// Each cell that the engine has, line by line, with the image's column and row that it shows.
+    fn cells(&self) -> impl Iterator<Item = ([i64; 2], [u64; 2])> + '_ {
+        let shown = |cell, line| match self.sampled(cell, line) {
+            Sample::Texel { column, row } => Some(([cell, line], [column, row])),
+            Sample::Outside => None,
+            Sample::Refused(verdict) => panic!("{verdict:?} of {:?}", self.bytes),
+        };
+        let lines = (0..).take_while(move |line| shown(0, *line).is_some());
+        lines.flat_map(move |line| (0..).map_while(move |cell| shown(cell, line)))
+    }
+
     fn rects(&self) -> impl Iterator<Item = Rect> + '_ {
         self.entries.iter().filter_map(|entry| match entry {
             Entry::Rect(rect) => Some(*rect),
@@ -229,16 +231,31 @@ impl Copied {
         })
     }
 
-    /// A flipped load of more than 1,024 columns has its first texel cut to 16 bits, as in the
-    /// original (docs/DIFFERENCES.md): what it shows is not the rule's.
+    /// The rectangles, each with the load before it.
+    fn readings(&self) -> impl Iterator<Item = Reading> + '_ {
+        let mut last = None;
+        self.entries.iter().filter_map(move |entry| match entry {
+            Entry::Load(load) => {
+                last = Some(*load);
+                None
+            }
+            Entry::Rect(rect) => Some(Reading {
+                load: last.expect("a load before each rectangle"),
+                rect: *rect,
+            }),
+            _ => None,
+        })
+    }
+
+    /// Whether it has a load of which nothing is claimed: what that shows is not the engine's.
     fn too_wide(&self) -> bool {
-        let wide = |(load, _): (Load, u16)| load.lrs / 4 - load.uls / 4 + 1 > 1_024;
-        self.object.image_flip == 1 && self.loads().any(wide)
+        self.loads()
+            .any(|(load, _)| is_too_wide(&self.object, &load))
     }
 }
 
 #[test]
-fn copied_pixels_are_the_rule_s() {
+fn copied_pixels_are_the_engine_s() {
     let mut r = Random(1);
     let (mut finished, mut stopped, mut wide, mut drawn) = (0, 0, 0, 0);
     let mut kinds = [[0; 4]; 5];
@@ -363,11 +380,42 @@ fn load_fault(object: &Object, load: &Load, line: u16) -> Option<String> {
 
 impl Copied {
     /// What a finished plan does not keep of the promise that each cell of the clipped frame is
-    /// drawn once, nothing else is, and nothing but the image is loaded.
+    /// drawn once, nothing else is, nothing but the image is loaded, and each cell shows what the
+    /// engine says.
     fn fault(&self) -> Option<String> {
         self.loads()
             .find_map(|(load, line)| load_fault(&self.object, &load, line))
             .or_else(|| Met::of(self.frame(), self.rects()).fault())
+            .or_else(|| self.readings().find_map(|reading| self.misread(&reading)))
+    }
+
+    /// The first cell of a rectangle that shows by its load what is not loaded, or something else
+    /// than the engine says, in words. That is no fault of a load of which nothing is claimed.
+    fn misread(&self, reading: &Reading) -> Option<String> {
+        let Reading { rect, .. } = reading;
+        let [left, top, ..] = self.frame();
+        let (cell, line) = (i64::from(rect.ulx) - left, i64::from(rect.uly) - top);
+        let wrong = |(i, j): (i32, i32)| {
+            let (cell, line) = (cell / 4 + i64::from(i), line / 4 + i64::from(j));
+            let read = Sample::Texel {
+                column: reading.column(i),
+                row: reading.row(j),
+            };
+            let said = self.sampled(cell, line);
+            let fault = match reading.is_loaded([i, j]) {
+                false => "which is not loaded".to_string(),
+                true if read != said => format!("and not {}", named(said)),
+                true => return None,
+            };
+            let read = named(read);
+            Some(format!("cell ({cell}, {line}) shows {read}, {fault}"))
+        };
+        let [across, down] = [rect.lrx - rect.ulx, rect.lry - rect.uly].map(|reach| reach / 4);
+        let mut cells = (0..=down).flat_map(|j| (0..=across).map(move |i| (i, j)));
+        match is_too_wide(&self.object, &reading.load) {
+            true => None,
+            false => cells.find_map(wrong),
+        }
     }
 
     /// Whether a load fills the whole capacity.
@@ -375,6 +423,13 @@ impl Copied {
         let most = capacity(self.object.image_fmt, self.object.image_siz);
         self.loads()
             .any(|(load, line)| load.rows as i64 * i64::from(line) == most)
+    }
+}
+
+fn named(sample: Sample) -> String {
+    match sample {
+        Sample::Texel { column, row } => format!("column {column}, row {row}"),
+        other => format!("{other:?}"),
     }
 }
 
@@ -567,10 +622,63 @@ const WRONG_LOADS: [(Edit, &str); 6] = [
     ),
 ];
 
+/// Rectangles and loads that show another texel, or one that is not loaded.
+const WRONG_READINGS: [(Edit, &str); 9] = [
+    // A column further, a column before the load's first, and flipped.
+    (
+        |e| rect(e, 0).uls = 32,
+        "cell (0, 0) shows column 13, row 0, and not column 12, row 0",
+    ),
+    (
+        |e| rect(e, 1).uls = -32,
+        "cell (5, 0) shows column 0, row 0, and not column 1, row 0",
+    ),
+    (
+        |e| rect(e, 3).uls = -16 * 32,
+        "cell (4, 2) shows column 15, row 2, and not column 0, row 2",
+    ),
+    // Other columns loaded, and other rows.
+    (
+        |e| {
+            load(e, 2).uls -= 4;
+            load(e, 2).lrs -= 4;
+        },
+        "cell (0, 2) shows column 11, row 2, and not column 12, row 2",
+    ),
+    (
+        |e| {
+            load(e, 4).ult += 4;
+            load(e, 4).lrt += 4;
+        },
+        "cell (0, 4) shows column 12, row 1, and not column 12, row 0",
+    ),
+    // A column and a row too few loaded, all else as it should be.
+    (
+        |e| load(e, 0).lrs -= 4,
+        "cell (3, 0) shows column 15, row 0, which is not loaded",
+    ),
+    (
+        |e| load(e, 3).lrt -= 4,
+        "cell (4, 3) shows column 0, row 3, which is not loaded",
+    ),
+    // A load left out, so that the one before it is shown; and two rectangles in each other's place.
+    (
+        |e| {
+            e.remove(9);
+        },
+        "cell (4, 0) shows column 12, row 0, and not column 0, row 0",
+    ),
+    (
+        |e| e.swap(25, 30),
+        "cell (4, 4) shows column 12, row 0, and not column 0, row 0",
+    ),
+];
+
 #[test]
 fn what_is_wrong_with_a_plan_is_told() {
     assert_eq!(six_rectangles().fault(), None);
-    for (edit, told) in WRONG_RECTS.into_iter().chain(WRONG_LOADS) {
+    let wrong = WRONG_RECTS.into_iter().chain(WRONG_LOADS);
+    for (edit, told) in wrong.chain(WRONG_READINGS) {
         let mut copied = six_rectangles();
         edit(&mut copied.entries);
         assert_eq!(copied.fault().as_deref(), Some(told));
@@ -579,6 +687,75 @@ fn what_is_wrong_with_a_plan_is_told() {
     let mut copied = six_rectangles();
     loaded_tile(&mut copied.entries, 0).line = 256;
     assert_eq!((copied.fault(), copied.is_full()), (None, true));
+}
+
+/// Entries that draw another picture, and how many pixels of it are wrong.
+const WRONG_PIXELS: [(Edit, usize); 8] = [
+    (|e| rect(e, 0).uls = 32, 8),
+    (|e| rect(e, 3).ult = 32, 32),
+    (|e| load(e, 1).start += 2, 32),
+    (|e| load(e, 2).stride += 2, 4),
+    (|e| loaded_tile(e, 5).line += 1, 16),
+    // Of each line a cell is not drawn, and 15 show another texel; and one pixel is drawn elsewhere.
+    (
+        |e| {
+            rect(e, 3).ulx += 4;
+            rect(e, 3).lrx += 4;
+        },
+        34,
+    ),
+    // A cell of each line is drawn twice. The last rectangle is not drawn.
+    (|e| rect(e, 0).lrx += 4, 2),
+    (|e| e.truncate(30), 32),
+];
+
+/// The entries of a plan on the machine, each with the tiles that it is meant for.
+fn drawn(entries: &[Entry]) -> Machine {
+    let mut machine = Machine::new(320, 240);
+    for entry in entries {
+        machine.tiles.apply(entry);
+        match entry {
+            Entry::Load(load) => machine.load(load),
+            Entry::Rect(rect) => machine.draw(rect),
+            _ => {}
+        }
+    }
+    machine
+}
+
+#[test]
+fn wrong_pixels_are_told() {
+    let copied = six_rectangles();
+    assert_eq!(copy_faults(&drawn(&copied.entries), &copied), 0);
+    for (edit, faults) in WRONG_PIXELS {
+        let mut entries = copied.entries.clone();
+        edit(&mut entries);
+        assert_eq!(copy_faults(&drawn(&entries), &copied), faults);
+    }
+}
+
+/// The smallest flipped load of which nothing is claimed: it has 1,025 columns. What is not flipped
+/// is claimed as wide as it may be.
+#[test]
+fn a_wide_flipped_load_shows_another_column() {
+    let image = [(2, 4 * 1_040), (6, 4_092), (10, 4), (14, 4), (20, 0xfff4)];
+    let fields = |flip| {
+        [
+            &image[..],
+            &[(0, 64), (26, flip), (30, 4), (32, 4), (36, 1)],
+        ]
+        .concat()
+    };
+    let [plain, flipped] = [0, 1]
+        .map(|flip| Copied::of((object(&fields(flip), 0, 0), Scissor::new(0, 0, 1_023, 240))));
+    let read = |copied: &Copied| -> Vec<(u16, u64)> {
+        let first = |reading: Reading| (columns(&reading.load), reading.column(0));
+        copied.readings().map(first).collect()
+    };
+    assert_eq!(read(&plain), [(1_025, 2)]);
+    assert_eq!(plain.fault(), None);
+    assert_eq!(read(&flipped), [(1_025, 1_023)]);
+    assert_eq!(named(flipped.sampled(0, 0)), "column 1024, row 0");
 }
 
 // ---- scaled plans

@@ -211,6 +211,61 @@ fn objects_made_from_pictures() {
     }
 }
 
+/// Cells at a wrap and at a flip, outside, of a load that is too wide for the claim, and of refused
+/// plans and objects.
+#[test]
+fn cells_of_copies() {
+    for (name, line) in [
+        ("cell-wrap", "cell ../visor/wrap.bin 19 0"),
+        ("cell-flip", "cell ../visor/flip.bin 18 3"),
+        ("cell-wide", "cell ../visor/wide.bin 0 0"),
+        ("cell-wide-lost", "cell ../visor/wide.bin 0x3fe 0"),
+        ("cell-outside", "cell ../visor/wrap.bin 28 0"),
+        ("cell-empty", "cell L.bin 0 0 --scissor 16,0,320,240"),
+        ("cell-too-big", "cell B.bin 319 239"),
+        (
+            "cell-further",
+            "cell A.bin 7 5 --address 0xfffffffffffe0000",
+        ),
+        (
+            "cell-address",
+            "cell A.bin 7 239 --address=0xfffffffffffe0000",
+        ),
+        ("cell-refused", "cell N-copy.bin 0 0"),
+        ("cell-scaled", "cell E.bin 0 0"),
+    ] {
+        let arguments: Vec<&str> = line.split(' ').collect();
+        golden(name, &arguments);
+    }
+}
+
+/// The project's README, where it is at hand, has two of them as they are printed.
+#[test]
+fn cells_of_the_readme() {
+    let project = Path::new(env!("CARGO_MANIFEST_DIR")).join("..");
+    let readme = project.join("README.md");
+    // Where the crate lies outside the project, a README there is another crate's.
+    if !readme.exists() || !project.join("crates/visorlongan").exists() {
+        return println!("not in the repository: the project's README is not here");
+    }
+    let readme = std::fs::read_to_string(readme).expect("text");
+    for line in [
+        "cell tests/visor/wrap.bin 19 0",
+        "cell tests/visor/flip.bin 18 3",
+    ] {
+        let arguments: Vec<&str> = line.split(' ').collect();
+        let run = ran(
+            VISOR,
+            &arguments,
+            Path::new(env!("CARGO_MANIFEST_DIR")),
+            b"",
+        );
+        let typed = line.replace("tests", "host/tests");
+        let shown = format!("    visor {typed}\n\n```\n{}```\n", run.out);
+        assert!(readme.contains(&shown), "README.md has not\n{shown}");
+    }
+}
+
 #[test]
 fn raw_is_what_bgplan_prints() {
     let cases = cases();
@@ -674,6 +729,89 @@ fn pictures_that_are_wrong_use() {
     }
 }
 
+/// Cell lines that are wrong use or have no copied background, and what is said of them.
+const NO_CELLS: &[(&str, &str)] = &[
+    ("", "too few operands: FILE X Y is wanted"),
+    ("L.bin", "too few operands: FILE X Y is wanted"),
+    ("L.bin 1", "too few operands: FILE X Y is wanted"),
+    ("L.bin 1 2 3", "too many operands: FILE X Y is wanted"),
+    (
+        "L.bin -1 0",
+        "X wants a number of 64 bits, decimal or 0x.., not -1",
+    ),
+    (
+        "L.bin 0 -0x1",
+        "Y wants a number of 64 bits, decimal or 0x.., not -0x1",
+    ),
+    (
+        "L.bin left 0",
+        "X wants a number of 64 bits, decimal or 0x.., not left",
+    ),
+    (
+        "L.bin 0 0.5",
+        "Y wants a number of 64 bits, decimal or 0x.., not 0.5",
+    ),
+    (
+        "L.bin 0 18446744073709551616",
+        "Y wants a number of 64 bits, decimal or 0x.., not 18446744073709551616",
+    ),
+    ("L.bin 0 0 --picture L.bin", "there is no option --picture"),
+    ("L.bin 0 0 -o", "there is no option -o"),
+];
+
+#[test]
+fn cells_that_are_wrong_use() {
+    for (line, said) in NO_CELLS {
+        let arguments: Vec<&str> = ["cell"]
+            .into_iter()
+            .chain(line.split_whitespace())
+            .collect();
+        let Ran { out, err, status } = visor(&arguments);
+        let wanted = format!("visor: {said}\nvisor: `visor --help` says how it is used\n");
+        assert_eq!((out.as_str(), err, status), ("", wanted, 2), "{line}");
+    }
+    let mut bytes = case("L.bin");
+    bytes[52] = 11;
+    let Ran { out, err, status } = visor_on(&["cell", "-", "0", "0"], &bytes);
+    let said = "visor: standard input: its opcode is 11, no background's; `visor cell` is for \
+                copied ones, with opcode 10\n";
+    assert_eq!((out.as_str(), status), ("", 2));
+    assert!(err.ends_with(said), "{err}");
+}
+
+/// A cell is looked at last: what is refused is refused for every cell, far ones too.
+#[test]
+fn refusals_of_cells() {
+    let far = u64::MAX.to_string();
+    let refused = |options: &[&str], input: &[u8]| {
+        let arguments = [&["cell", "-", &far, "0xffffffffffffffff"], options].concat();
+        let Ran { out, status, .. } = visor_on(&arguments, input);
+        let verdict = out
+            .lines()
+            .find_map(|line| line.strip_prefix("REFUSED, verdict "));
+        (verdict.and_then(|line| line.chars().next()), status)
+    };
+    let mut bytes = case("L.bin");
+    assert_eq!(refused(&[], &bytes), (None, 0));
+    bytes[27] = 2;
+    assert_eq!(refused(&[], &bytes), (Some('5'), 1));
+    bytes[22] = 5;
+    assert_eq!(refused(&[], &bytes), (Some('4'), 1));
+    let wide = ["--scissor", "0,0,1024,240"];
+    assert_eq!(refused(&wide, &bytes), (Some('3'), 1));
+    let short = [&wide[..], &["--as", "copy"]].concat();
+    assert_eq!(refused(&short, &bytes[..39]), (Some('2'), 1));
+}
+
+/// A cell far down the longest plan, found in the memory of a short one.
+#[test]
+fn a_cell_of_the_longest_plan() {
+    let line = "ulimit -v 100000; visor cell - 1022 1022";
+    let Ran { out, err, status } = ran("sh", &["-c", line], Path::new(CASES), &largest());
+    assert_eq!(status, 0, "{err}");
+    assert!(out.contains("entry 5232646, of strip 1046529: "), "{out}");
+}
+
 #[test]
 fn exit_statuses() {
     assert_eq!(visor(&["plan", "L.bin"]).status, 0);
@@ -730,6 +868,7 @@ fn output_that_cannot_be_written() {
     }
     assert_eq!(shell("visor --help > /dev/full").status, 3);
     assert_eq!(shell("visor explain 7 > /dev/full").status, 3);
+    assert_eq!(shell("visor cell L.bin 0 0 > /dev/full").status, 3);
 }
 
 /// Nobody reads on: it ends at once, and quietly. The whole plan would be 430 MB.
@@ -760,7 +899,12 @@ fn the_longest_plan_is_streamed() {
 
 #[test]
 fn colour_only_on_a_terminal() {
-    for arguments in [&["plan", "B.bin"][..], &["explain", "7"], &["--help"]] {
+    for arguments in [
+        &["plan", "B.bin"][..],
+        &["cell", "L.bin", "0", "0"],
+        &["explain", "7"],
+        &["--help"],
+    ] {
         assert!(!visor(arguments).out.contains('\u{1b}'), "{arguments:?}");
     }
     if !has("script") {
@@ -858,7 +1002,7 @@ fn the_version_names_the_library() {
 fn the_manual_is_a_page_for_man() {
     let page = visor(&["--man"]).out;
     assert!(page.starts_with(".TH VISOR 1 "));
-    for name in ["plan", "draw", "report", "explain", "diff", "make"] {
+    for name in ["plan", "draw", "report", "explain", "diff", "make", "cell"] {
         assert!(page.contains(&format!("\n.SS {name}\n")), "{name}");
     }
     if has("groff") {

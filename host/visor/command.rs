@@ -25,9 +25,9 @@ pub type Outcome = Result<Status, Failure>;
 /// How a command ended that could do its work: the exit status.
 #[derive(Clone, Copy, Debug, PartialEq, Eq)]
 pub enum Status {
-    /// Planned, drawn, made, the same.
+    /// Planned, drawn, made, answered, the same.
     Good = 0,
-    /// A plan or a picture was refused, or two plans differ.
+    /// A plan, a picture or a cell's background was refused, or two plans differ.
     Refused = 1,
 }
 

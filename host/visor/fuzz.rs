@@ -2,6 +2,7 @@
 //! 3, and nobody panics. Nor does a sheet, a picture or a report of any record. FUZZ_SECONDS says for
 //! how long; the default is 1.
 
+use crate::clipped::Clipped;
 use crate::input::Subject;
 use crate::io::Io;
 use crate::picture::Picture;
@@ -12,7 +13,7 @@ use crate::{page, png, raster, run, svg};
 use std::ffi::OsString;
 use std::io::{self, Write};
 use std::time::{Duration, Instant};
-use visorlongan::{Mode, Record, Scissor};
+use visorlongan::{sample, Mode, Object, Record, Sample, Scissor};
 
 /// Numbers that look like chance and are the same in each run (splitmix64).
 pub struct Random(u64);
@@ -140,6 +141,28 @@ fn deadline() -> Instant {
     Instant::now() + Duration::from_secs(seconds.unwrap_or(1))
 }
 
+/// Runs a command line on some input: its status, and what is said on standard error.
+fn answered(
+    arguments: Vec<OsString>,
+    bytes: &[u8],
+    out: &mut dyn Write,
+    colour: bool,
+) -> (u8, String) {
+    let (mut input, mut err) = (bytes, Vec::new());
+    let mut io = Io {
+        input: &mut input,
+        out,
+        err: &mut err,
+        colour,
+        watched: false,
+    };
+    let status = run(arguments, &mut io);
+    (
+        status,
+        String::from_utf8(err).expect("what is said is text"),
+    )
+}
+
 #[test]
 fn any_command_line_is_answered() {
     let deadline = deadline();
@@ -155,6 +178,8 @@ fn any_command_line_is_answered() {
             "draw",
             "explain",
             "make",
+            "cell",
+            "cell",
             "help",
             "--help",
             "--version",
@@ -164,16 +189,9 @@ fn any_command_line_is_answered() {
         let mut arguments = vec![OsString::from(random.of(&commands))];
         arguments.extend((0..random.below(5)).map(|_| word(&mut random)));
         let bytes = input(&mut random);
-        let (mut input, mut out, mut err) = (&bytes[..], Head(1 << 16), Vec::new());
-        let mut io = Io {
-            input: &mut input,
-            out: &mut out,
-            err: &mut err,
-            colour: random.below(2) == 0,
-            watched: false,
-        };
-        let status = run(arguments.clone(), &mut io);
-        let said = String::from_utf8(err).expect("what is said is text");
+        let mut out = Head(1 << 16);
+        let colour = random.below(2) == 0;
+        let (status, said) = answered(arguments.clone(), &bytes, &mut out, colour);
         assert!(status < 4, "{arguments:?}");
         assert!(
             status < 2 || said.contains("visor: "),
@@ -182,6 +200,42 @@ fn any_command_line_is_answered() {
         statuses[usize::from(status)] += 1;
     }
     assert!(statuses.iter().all(|count| *count > 0), "{statuses:?}");
+}
+
+/// A cell inside most frames, or any.
+fn place(random: &mut Random) -> OsString {
+    let number = match random.below(4) {
+        0 => random.number() >> random.below(64),
+        _ => random.below(120) as u64,
+    };
+    number.to_string().into()
+}
+
+/// Any cell of any input is answered, and no plan shows what it should not.
+#[test]
+fn any_cell_is_answered() {
+    let deadline = deadline();
+    let mut random = Random::new(8);
+    let (mut statuses, mut shown) = ([0; 3], 0);
+    while Instant::now() < deadline {
+        let bytes = input(&mut random);
+        let cell = [(); 2].map(|()| place(&mut random));
+        let arguments = ["cell", "-", "--as=copy"].map(OsString::from);
+        let arguments = [&arguments[..2 + random.below(2)], &cell].concat();
+        let mut out = Vec::new();
+        let (status, _) = answered(arguments.clone(), &bytes, &mut out, false);
+        let text = String::from_utf8(out).expect("text");
+        assert!(
+            !text.contains("they should"),
+            "{arguments:?} {bytes:?}\n{text}"
+        );
+        statuses[usize::from(status)] += 1;
+        shown += usize::from(text.contains("as is proved for this cell"));
+    }
+    assert!(
+        statuses.iter().all(|count| *count > 0) && shown > 0,
+        "{statuses:?} {shown}"
+    );
 }
 
 /// A record that is mostly planned: the scissor's edges are in range, and some fields are changed.
@@ -209,6 +263,39 @@ fn subject(random: &mut Random) -> Subject {
         render_mode: request.render_mode,
         address: request.address,
     }
+}
+
+/// The clipped frame that sheets and cells go by has the cells that the engine has.
+#[test]
+fn clipped_frames_are_the_engine_s() {
+    let mut random = Random::new(16);
+    let (mut frames, mut empty) = (0, 0);
+    for _ in 0..50_000 {
+        let Subject {
+            object, scissor, ..
+        } = subject(&mut random);
+        let cell = |column: i32, line: i32| sample(&object, scissor, column as u64, line as u64);
+        if matches!(cell(0, 0), Sample::Refused(_)) {
+            continue;
+        }
+        let fields = Object::decode(&object, Mode::Copy).expect("40 bytes");
+        let edges = [scissor.ulx, scissor.uly, scissor.lrx, scissor.lry];
+        let Clipped { columns, lines, .. } = Clipped::of(&fields, edges);
+        let last = match columns.min(lines) {
+            0 => cell(0, 0),
+            _ => cell(columns - 1, lines - 1),
+        };
+        assert_eq!(
+            last == Sample::Outside,
+            columns.min(lines) == 0,
+            "{object:?}"
+        );
+        let beyond = [cell(columns, 0), cell(0, lines)];
+        assert_eq!(beyond, [Sample::Outside; 2], "{object:?}");
+        frames += 1;
+        empty += usize::from(last == Sample::Outside);
+    }
+    assert!(empty > 100 && frames > 2 * empty, "{frames} {empty}");
 }
 
 /// A picture of the right size, of another, or of no format at all.

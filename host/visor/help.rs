@@ -16,14 +16,17 @@ mode, the opcode and the address, as bgplan reads it), or an object: 40 bytes of
 names and ASCII columns are left out. What a FILE was taken for is said on standard error.";
 
 const STATUS: &[(&str, &str)] = &[
-    ("0", "planned, drawn, made, or the same"),
+    (
+        "0",
+        "planned, drawn, made, the same, or a cell answered, whether or not its plan is refused",
+    ),
     (
         "1",
         "refused, and the verdict or the reason is said; or two plans differ",
     ),
     (
         "2",
-        "wrong use, or input that says nothing that could be planned",
+        "wrong use, input that says nothing that could be planned, or a file left out of a report",
     ),
     ("3", "reading or writing failed"),
 ];

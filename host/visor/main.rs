@@ -1,9 +1,10 @@
 //! visor: what people do with backgrounds. It reads records, objects and hex dumps, and shows their
-//! plans as tables, text, sheets and reports; and it makes the object of a picture. This program
-//! parses and prints; entries, verdicts, strip numbers, drift and objects come from the proved
-//! library.
+//! plans as tables, text, sheets and reports; it says what a cell of the screen shows, and makes the
+//! object of a picture. This program parses and prints; entries, verdicts, strip numbers, drift, what
+//! a cell shows and objects come from the proved library.
 
 mod args;
+mod clipped;
 mod command;
 mod commands;
 mod deflate;
@@ -25,6 +26,7 @@ mod picture;
 mod png;
 mod ppm;
 mod raster;
+mod reading;
 mod report;
 mod sheet;
 mod step;

@@ -222,6 +222,11 @@ pub fn of(verdict: Verdict) -> Option<&'static Page> {
     ALL.iter().find(|page| page.verdict == verdict)
 }
 
+/// What a verdict is called.
+pub fn name(verdict: Verdict) -> &'static str {
+    of(verdict).map_or("", |page| page.name)
+}
+
 #[cfg(test)]
 mod tests {
     use super::*;

@@ -306,22 +306,36 @@ pub fn conclude(
     if let Some(told) = drift_told(measured) {
         writeln!(io.out, "{told}")?;
     }
-    let name = pages::of(end.verdict).map_or("", |page| page.name);
-    let (number, sentence) = (end.verdict.number(), end.verdict.sentence());
     if end.verdict == Verdict::Finished {
         let nothing = nothing_drawn(end);
-        let told = io.styled(
-            Style::Good,
-            &format!("verdict {number}, {name}: {sentence}"),
-        );
-        writeln!(io.out, "{told}{nothing}")?;
+        let told = verdict(end.verdict);
+        writeln!(io.out, "{}{nothing}", io.styled(Style::Good, &told))?;
     } else {
-        let place = stopped(subject, end, measured);
-        let told = format!("REFUSED, verdict {number}, {name}, {place}: {sentence}");
-        writeln!(io.out, "{}", io.styled(Style::Bad, &told))?;
-        writeln!(io.out, "`visor explain {number}` says what to look at")?;
+        let told = format!("REFUSED, {}", stop(subject, end, measured));
+        refused(end.verdict, &told, io)?;
     }
     Ok(())
+}
+
+/// Says what was refused by a verdict, and where more of that verdict is said.
+pub fn refused(verdict: Verdict, told: &str, io: &mut Io) -> Result<(), Failure> {
+    let number = verdict.number();
+    writeln!(io.out, "{}", io.styled(Style::Bad, told))?;
+    writeln!(io.out, "`visor explain {number}` says what to look at")?;
+    Ok(())
+}
+
+/// A verdict's number, name and sentence.
+pub fn verdict(verdict: Verdict) -> String {
+    let (number, name) = (verdict.number(), pages::name(verdict));
+    format!("verdict {number}, {name}: {verdict}")
+}
+
+/// The verdict of a plan that was refused, with the place where it stopped.
+pub fn stop(subject: &Subject, end: &End, measured: &Measured) -> String {
+    let (number, name) = (end.verdict.number(), pages::name(end.verdict));
+    let (place, sentence) = (stopped(subject, end, measured), end.verdict.sentence());
+    format!("verdict {number}, {name}, {place}: {sentence}")
 }
 
 fn largest_load(subject: &Subject, end: &End) -> String {

@@ -1,8 +1,10 @@
 //! A plan followed to its end on a small machine: its strips, its loads, and what each pixel shows.
 //! Entries, verdict and drift are the library's; the machine only does what they say.
 
+use crate::clipped::Clipped;
 use crate::input::Subject;
 use crate::machine::Machine;
+use crate::reading::is_too_wide;
 use std::ops::Range;
 use visorlongan::{
     count, drift, Drift, End, Entry, Kind, Load, Mode, Object, Planner, Rect, Request,
@@ -48,8 +50,8 @@ impl Strip {
 pub struct LoadSeen {
     pub strip: usize,
     pub words: u64,
-    /// Its columns of the image, in a copied plan.
-    pub columns: u16,
+    /// Whether it is one of which nothing is claimed, in a copied plan.
+    pub too_wide: bool,
     /// Whether its columns and rows lie inside the image. Those of a scaled plan are counted from
     /// other addresses than the image's, so that it says something of copied plans alone.
     pub inside: bool,
@@ -180,7 +182,7 @@ impl Study {
                     self.loads.push(LoadSeen {
                         strip: self.strips.len(),
                         words: load.rows * u64::from(line),
-                        columns: (load.lrs / 4).saturating_sub(load.uls / 4) + 1,
+                        too_wide: self.object.is_some_and(|o| is_too_wide(&o, &load)),
                         inside: self.has(&load),
                     });
                 }
@@ -339,33 +341,21 @@ impl Study {
         self.loads.iter().filter(wrong).count()
     }
 
-    /// Where the frame that the scissor leaves begins, across and down, in quarters of a pixel.
-    pub fn begins(&self) -> [i32; 2] {
-        let [left, top, ..] = self.edges();
-        self.object.map_or([0; 2], |object| {
-            [object.frame_x.0.max(left), object.frame_y.0.max(top)]
-        })
+    /// The frame that the scissor leaves, where there is an object.
+    fn clipped(&self) -> Option<Clipped> {
+        let object = self.object?;
+        Some(Clipped::of(&object, self.scissor))
     }
 
-    /// The scissor's edges in quarters of a pixel.
-    fn edges(&self) -> [i32; 4] {
-        self.scissor.map(|edge| edge.clamp(0, 1023) * 4)
+    /// Where that frame begins, across and down, in quarters of a pixel.
+    pub fn begins(&self) -> [i32; 2] {
+        self.clipped()
+            .map_or([0; 2], |frame| [frame.left, frame.top])
     }
 
     /// The pixels of that frame: columns and lines.
     pub fn frame(&self) -> (Range<i32>, Range<i32>) {
-        let Some(object) = self.object else {
-            return (0..0, 0..0);
-        };
-        let ([x, y], [.., right, lower]) = (self.begins(), self.edges());
-        let reach = |first: i32, end: i32| {
-            let whole = (end - first).div_euclid(4).max(0);
-            first.div_euclid(4)..first.div_euclid(4) + whole
-        };
-        (
-            reach(x, (object.frame_x.0 + object.frame_w.0).min(right)),
-            reach(y, (object.frame_y.0 + object.frame_h.0).min(lower)),
-        )
+        self.clipped().map_or((0..0, 0..0), |frame| frame.pixels())
     }
 
     /// Lines and columns of that frame in which nothing is drawn; none of a frame without a pixel.

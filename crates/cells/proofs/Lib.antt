@@ -6,4 +6,7 @@ pub mod Once
 pub mod Loads
 pub mod Course
 pub mod Fits
+pub mod Finished
 pub mod Every
+pub mod Shown
+pub mod Texels

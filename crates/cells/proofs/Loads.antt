@@ -1,6 +1,6 @@
 -- Each load of a copy plan lies inside the image, and its line times its rows is at most the capacity: by the bounds of its strip, and since the strip fits.
 -- Assumes nothing.
-use Rattle.std.specs.Prelude.{◌≡◌, refl, false, Option, Some, None, List, [], ◌∷◌, ℕ, ◌+◌, ◌-◌, ◌*◌, ◌%◌, ◌^◌, ◌≤◌}
+use Rattle.std.specs.Prelude.{◌≡◌, refl, false, Option, Some, None, List, [], ◌∷◌, ℕ, ◌+◌, ◌-◌, ◌*◌, ◌%◌, ◌^◌, ◌≤◌, ◌<◌}
 use Rattle.std.proofs.Common.{sym, subst, arith, ltb-false}
 use Rattle.measures.specs.Measure.{texels}
 use Rattle.plan.specs.declared.types.Copy.{Copy}
@@ -19,6 +19,24 @@ use Rattle.cells.proofs.Places.{places_in}
 bound_texel : (n : ℕ) → n ≤ 16383 → texels (bound n) ≡ n
 bound_texel n h = omega arith
 
+-- the bounds of a place's load, in texels
+pub record LoadBounds (p : Place) : Type 0 where
+  pub left : texels (area_of p).uls ≡ p.strip.aligned_left
+  pub right : texels (area_of p).lrs ≡ p.strip.aligned_left + p.strip.load_width - 1
+  pub top : texels (area_of p).ult ≡ p.sy
+  pub bottom : texels (area_of p).lrt ≡ p.sy + p.strip_height - 1
+
+pub load_bounds : (c : Copy) (x y : ℕ) → SoundCopy c → x < c.width → y < c.height → LoadBounds (place_at c x y (strip_row_of c y) (strip_height_of c y))
+load_bounds c x y s h k =
+    let b = strip_bounds c x s h in
+    let r = height_in c y s k in
+    record {
+      left = bound_texel (strip_of c x).aligned_left (omega (arith, s.image_width'));
+      right = bound_texel ((strip_of c x).aligned_left + (strip_of c x).load_width - 1) (omega (arith, s.image_width'));
+      top = bound_texel (strip_row_of c y) (omega (arith, s.image_height'));
+      bottom = bound_texel (strip_row_of c y + strip_height_of c y - 1) (omega (arith, s.image_height'));
+    }
+
 -- what is claimed of a place's load, with its own line before it
 abbrev Inside : Copy → Place → Type 0
 Inside c p = LoadInside c.image_width c.image_height c.capacity (p.strip.line % 2 ^ 16) (area_of p).uls (area_of p).ult (area_of p).lrs (area_of p).lrt (rows_of (area_of p).ult (area_of p).lrt)
@@ -34,19 +52,16 @@ module _ (c : Copy) (s : SoundCopy c) where
           let strip = strip_of c p.x in
           let sy = strip_row_of c p.y in
           let h = strip_height_of c p.y in
-          let left = bound_texel strip.aligned_left (omega (arith, s.image_width')) in
-          let right = bound_texel (strip.aligned_left + strip.load_width - 1) (omega (arith, s.image_width')) in
-          let top = bound_texel sy (omega (arith, s.image_height')) in
-          let bottom = bound_texel (sy + h - 1) (omega (arith, s.image_height')) in
-          let rows : rows_of (bound sy) (bound (sy + h - 1)) ≡ h = omega (arith, top, bottom) in
+          let t = load_bounds c p.x p.y s r.within r.above in
+          let rows : rows_of (bound sy) (bound (sy + h - 1)) ≡ h = omega (arith, t.top, t.bottom) in
           let line : strip.line % 2 ^ 16 ≡ strip.line = omega arith in
           let words : strip.line % 2 ^ 16 * rows_of (bound sy) (bound (sy + h - 1)) ≡ strip.line * h = rw (line, rows) refl in
           record {
-            left = omega (arith, left, right);
-            right = omega (arith, right);
-            top = omega (arith, top, bottom);
-            bottom = omega (arith, bottom);
-            height = omega (arith, top, bottom);
+            left = omega (arith, t.left, t.right);
+            right = omega (arith, t.right);
+            top = omega (arith, t.top, t.bottom);
+            bottom = omega (arith, t.bottom);
+            height = omega (arith, t.top, t.bottom);
             fits = omega (arith, words, ltb-false c.capacity (strip.line * h) f);
           }
 

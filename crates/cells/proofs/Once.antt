@@ -18,7 +18,7 @@ use Rattle.cells.proofs.Cover.{among, covers, none_of, covered_once, uncovered}
 
 -- ---- a strip's rectangle
 
-abbrev hits : (side x y : ℕ) → Place → Bool
+abbrev pub hits : (side x y : ℕ) → Place → Bool
 hits side x y p =
     meets side (quarters p.copy.left + of_texels p.x) (quarters p.copy.top + of_texels p.y) (quarters p.copy.left + of_texels (p.x + p.strip.strip_width - 1)) (quarters p.copy.top + of_texels (p.y + p.strip_height - 1)) x y
 
@@ -31,7 +31,7 @@ met_entries side x y (p ∷ ps) = by (hits side x y p) refl (met_entries side x 
     by true e r = rw e (omega (arith, r))
     by false e r = rw e (omega (arith, r))
 
-same_of : (P : Place → Type 0) (f g : Place → Bool) → ((p : Place) → P p → f p ≡ g p) → (ps : List Place) → All P ps → filter f ps ≡ filter g ps
+pub same_of : (P : Place → Type 0) (f g : Place → Bool) → ((p : Place) → P p → f p ≡ g p) → (ps : List Place) → All P ps → filter f ps ≡ filter g ps
 same_of P f g e [] h = refl
 same_of P f g e (p ∷ ps) h = rw (e p h.0, same_of P f g e ps h.1)
 
@@ -95,14 +95,15 @@ module _ (c : Copy) (s : SoundCopy c) where
       by true false e f = ap length (uncovered c s i j (inr (ltb-false j c.height f)))
       by false u e f = ap length (uncovered c s i j (inl (ltb-false i c.width e)))
 
+  pub hits_cell : (i j : ℕ) (p : Place) → InFrame c 0 p → hits 4 (quarters c.left + of_texels i) (quarters c.top + of_texels j) p ≡ covers i j p
+  hits_cell i j p r = rw (place_copy p r) (and_same (cell_axis (quarters c.left) p.x p.strip.strip_width (place_wide p r) i) (cell_axis (quarters c.top) p.y p.strip_height (place_high p r) j))
+
   cells_met : (i j : ℕ) → i < c.width → j < c.height → met_at 4 (quarters c.left + of_texels i) (quarters c.top + of_texels j) (entries_of (places_of c)) ≡ 1
   cells_met i j a b =
       let x = quarters c.left + of_texels i in
       let y = quarters c.top + of_texels j in
       met_entries 4 x y (places_of c)
-      ∙ ap length
-      (same_of (InFrame c 0) (hits 4 x y) (covers i j)
-      (λ p r. rw (place_copy p r) (and_same (cell_axis (quarters c.left) p.x p.strip.strip_width (place_wide p r) i) (cell_axis (quarters c.top) p.y p.strip_height (place_high p r) j))) (places_of c) (places_in c))
+      ∙ ap length (same_of (InFrame c 0) (hits 4 x y) (covers i j) (hits_cell i j) (places_of c) (places_in c))
       ∙ covering i j
       ∙ rw (lt-ltb i c.width a, lt-ltb j c.height b)
 

@@ -19,9 +19,9 @@ object_in p q = decode p true q.bytes
 abbrev pub frame_of : ℕ → Request → Copy
 frame_of p q = copy_of (object_in p q) q.scissor q.address
 
--- D "1 to 5 are tried in this order": the verdict of a check
+-- D "1 to 5 are tried in this order": the verdict of a copy's check, which is not 1
 pub record ByChecks (v : Verdict) : Type 0 where
-  pub low : 1 ≤ verdict_number v
+  pub low : 2 ≤ verdict_number v
   pub high : verdict_number v ≤ 5
 
 pub data Course (p : ℕ) (q : Request) : Type 0 where

@@ -2,4 +2,5 @@
 pub mod Places
 pub mod Given
 pub mod Met
+pub mod Shown
 pub mod Course

@@ -19,7 +19,7 @@ use Rattle.checks.specs.Check.{opcode_bad, edge_bad, scissor_bad, refused_by, sh
 use Rattle.plan.specs.Request as plan
 use Rattle.plan.specs.Out.{plan_out, refuse}
 use Rattle.plan.specs.Whole.{checked_out, plan_with, plan_of}
-use Rattle.request.specs.Host.{with_bytes, edge_in, scissor_in, host_request, scissor_kept, request_kept, RefusedAt, Alike}
+use Rattle.request.specs.Host.{with_bytes, edge_in, edges_in, scissor_in, host_request, edges_kept, scissor_kept, request_kept, RefusedAt, Alike}
 
 -- ---- edges
 
@@ -42,19 +42,26 @@ edge_exact : (t : Bool) (n : ℕ) → ltb n 1024 ≡ t → edge_bad (edge_in n) 
 edge_exact true n e b = sym (edge_small n (ltb-true n 1024 e))
 edge_exact false n e b = absurd (true≢false (sym (edge_large n (ltb-false n 1024 e)) ∙ b))
 
-module _ (ws : List ℕ) where
-  scissor_alike : scissor_bad (scissor_kept ws) ≡ scissor_bad (scissor_in ws)
+-- a cut scissor likewise
+module _ (ulx uly lrx lry : ℕ) where
+  pub edges_alike : scissor_bad (edges_kept ulx uly lrx lry) ≡ scissor_bad (edges_in ulx uly lrx lry)
   unfolding scissor_bad
-  scissor_alike = rw (edge_alike _ (get_or ws 1 0) refl, edge_alike _ (get_or ws 2 0) refl, edge_alike _ (get_or ws 3 0) refl, edge_alike _ (get_or ws 4 0) refl)
+  edges_alike = rw (edge_alike _ ulx refl, edge_alike _ uly refl, edge_alike _ lrx refl, edge_alike _ lry refl)
 
-  scissor_exact : scissor_bad (scissor_in ws) ≡ false → scissor_kept ws ≡ scissor_in ws
+  pub edges_exact : scissor_bad (edges_in ulx uly lrx lry) ≡ false → edges_kept ulx uly lrx lry ≡ edges_in ulx uly lrx lry
   unfolding scissor_bad
-  scissor_exact e =
+  edges_exact e =
       let a = or_false _ _ e in
       let b = or_false _ _ a.1 in
       let c = or_false _ _ b.1 in
       let d = or_false _ _ c.1 in
-      λ i. record { ulx = edge_exact _ (get_or ws 1 0) refl a.0 i; uly = edge_exact _ (get_or ws 2 0) refl b.0 i; lrx = edge_exact _ (get_or ws 3 0) refl c.0 i; lry = edge_exact _ (get_or ws 4 0) refl d.0 i }
+      λ i. record { ulx = edge_exact _ ulx refl a.0 i; uly = edge_exact _ uly refl b.0 i; lrx = edge_exact _ lrx refl c.0 i; lry = edge_exact _ lry refl d.0 i }
+
+scissor_alike : (ws : List ℕ) → scissor_bad (scissor_kept ws) ≡ scissor_bad (scissor_in ws)
+scissor_alike ws = edges_alike (get_or ws 1 0) (get_or ws 2 0) (get_or ws 3 0) (get_or ws 4 0)
+
+scissor_exact : (ws : List ℕ) → scissor_bad (scissor_in ws) ≡ false → scissor_kept ws ≡ scissor_in ws
+scissor_exact ws = edges_exact (get_or ws 1 0) (get_or ws 2 0) (get_or ws 3 0) (get_or ws 4 0)
 
 -- ---- plans
 

@@ -18,8 +18,11 @@ with_bytes bytes r = record { bytes = bytes; opcode = r.opcode; scissor = r.scis
 abbrev pub edge_in : ℕ → ℤ
 edge_in n = to_z w64 n
 
+abbrev pub edges_in : (ulx uly lrx lry : ℕ) → Scissor
+edges_in ulx uly lrx lry = record { ulx = edge_in ulx; uly = edge_in uly; lrx = edge_in lrx; lry = edge_in lry }
+
 abbrev pub scissor_in : List ℕ → Scissor
-scissor_in ws = record { ulx = edge_in (get_or ws 1 0); uly = edge_in (get_or ws 2 0); lrx = edge_in (get_or ws 3 0); lry = edge_in (get_or ws 4 0) }
+scissor_in ws = edges_in (get_or ws 1 0) (get_or ws 2 0) (get_or ws 3 0) (get_or ws 4 0)
 
 -- opcode, the scissor's edges, render mode, address
 unfoldable pub host_request : List ℕ → List ℕ → plan.Request
@@ -32,8 +35,11 @@ opcode_kept n = cond (ltb n 256) n 0
 abbrev pub edge_kept : ℕ → ℤ
 edge_kept n = cond (ltb n 1024) (pos n) (negsuc 0)
 
+abbrev pub edges_kept : (ulx uly lrx lry : ℕ) → Scissor
+edges_kept ulx uly lrx lry = record { ulx = edge_kept ulx; uly = edge_kept uly; lrx = edge_kept lrx; lry = edge_kept lry }
+
 abbrev pub scissor_kept : List ℕ → Scissor
-scissor_kept ws = record { ulx = edge_kept (get_or ws 1 0); uly = edge_kept (get_or ws 2 0); lrx = edge_kept (get_or ws 3 0); lry = edge_kept (get_or ws 4 0) }
+scissor_kept ws = edges_kept (get_or ws 1 0) (get_or ws 2 0) (get_or ws 3 0) (get_or ws 4 0)
 
 abbrev pub request_kept : List ℕ → Request
 request_kept ws = record { opcode = opcode_kept (get_or ws 0 0); scissor = scissor_kept ws; mode = get_or ws 5 0 % 2 ^ 32; address = get_or ws 6 0 }

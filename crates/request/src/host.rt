@@ -1,6 +1,6 @@
 // A host's request: opcode, four edges, render mode, address, a word each.
 ghost use Rattle.std.specs.Prelude.{◌≡◌, ◌%◌, ◌^◌};
-ghost use Rattle.request.specs.Host.{opcode_kept, edge_kept, KeptIs, HostIs};
+ghost use Rattle.request.specs.Host.{opcode_kept, edge_kept, edges_kept, KeptIs, HostIs};
 
 use crate::types::Request;
 use object::Scissor;
@@ -20,6 +20,18 @@ fn edge(n: u64) -> i32
     if n < 1024 { n as i32 } else { -1 }
 }
 
+// The scissor of four words, of which each that is no edge is cut.
+pub fn scissor_from(ulx: u64, uly: u64, lrx: u64, lry: u64) -> Scissor
+    ensures { result ≡ edges_kept ulx uly lrx lry }
+{
+    Scissor {
+        ulx: edge(ulx),
+        uly: edge(uly),
+        lrx: edge(lrx),
+        lry: edge(lry),
+    }
+}
+
 // The mode is a word's low 32 bits, by a remainder: a cast must not lose bits.
 fn mode(n: u64) -> u32
     ensures { result ≡ n % 2 ^ 32 }
@@ -31,15 +43,9 @@ fn mode(n: u64) -> u32
 pub fn from_words(words: &[u64; 7]) -> Request
     ensures { KeptIs words.now result }
 {
-    let scissor = Scissor {
-        ulx: edge(words[1]),
-        uly: edge(words[2]),
-        lrx: edge(words[3]),
-        lry: edge(words[4]),
-    };
     Request {
         opcode: opcode(words[0]),
-        scissor,
+        scissor: scissor_from(words[1], words[2], words[3], words[4]),
         mode: mode(words[5]),
         address: words[6],
     }

@@ -5,6 +5,6 @@ mod host;
 mod stored;
 mod types;
 
-pub use host::from_words;
+pub use host::{from_words, scissor_from};
 pub use stored::{CASE_BYTES, from_bytes};
 pub use types::Request;

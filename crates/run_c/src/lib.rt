@@ -35,7 +35,7 @@ pub extern "C" fn visor_apply(entry: &[u64], bank: &mut [u64]) -> u64
 
 #[unsafe(no_mangle)]
 pub extern "C" fn visor_version() -> u64
-    ensures { result ≡ version_of 0 7 1 }
+    ensures { result ≡ version_of 0 8 0 }
 {
     visorlongan::visor_version()
 }

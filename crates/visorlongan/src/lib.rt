@@ -72,7 +72,7 @@ pub fn visor_apply(entry: &[u64], bank: &mut [u64]) -> u64
 
 // The library's version, by which a host sees that its header and its archive belong together.
 pub fn visor_version() -> u64
-    ensures { result ≡ version_of 0 7 1 }
+    ensures { result ≡ version_of 0 8 0 }
 {
     version::number()
 }

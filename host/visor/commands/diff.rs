@@ -164,7 +164,7 @@ fn compare(sides: &[Side; 2], io: &mut Io) -> Outcome {
 /// An end in words.
 fn ended(&[verdict, entries, rectangles, _]: &[u64; 4]) -> String {
     let verdict = Verdict::try_from(verdict).map_or(format!("verdict {verdict}"), |verdict| {
-        let name = pages::of(verdict).map_or("", |page| page.name);
+        let name = pages::name(verdict);
         format!("verdict {}, {name}", verdict.number())
     });
     let entries = counted(entries, "entry", "entries");

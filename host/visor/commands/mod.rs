@@ -13,7 +13,7 @@ macro_rules! commands {
     };
 }
 
-commands!(plan, draw, report, explain, diff, make);
+commands!(plan, draw, report, explain, diff, make, cell);
 
 /// Finds the command that the first argument names, and runs it on the others.
 pub fn dispatch(mut arguments: Vec<OsString>, io: &mut Io) -> Outcome {

@@ -149,7 +149,7 @@ fn json(subject: &Subject, io: &mut Io) -> Result<End, Failure> {
         }
         Ok(writeln!(io.out, "}}")?)
     })?;
-    let name = pages::of(end.verdict).map_or("", |page| page.name);
+    let name = pages::name(end.verdict);
     let sentence = end.verdict.sentence();
     // Neither names nor sentences have a letter that JSON would escape, as a test sees to.
     writeln!(

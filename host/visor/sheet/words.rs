@@ -389,7 +389,7 @@ fn others(study: &Study, said: &mut Vec<Finding>) {
 fn reason(study: &Study) -> &'static str {
     let halves =
         study.object.is_some_and(|object| object.image_siz == 0) && study.columns() % 2 == 1;
-    let wide = study.flipped() && study.loads.iter().any(|load| load.columns > 1_024);
+    let wide = study.loads.iter().any(|load| load.too_wide);
     match study.mode {
         Some(Mode::Copy) if halves => {
             " Rows of an odd number of 4-bit texels lie half a byte less apart than they are long."

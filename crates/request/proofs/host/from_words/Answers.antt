@@ -1,6 +1,5 @@
 -- Field by field it is what is kept of the words, and what is cut leaves the plan as it is.
 use Rattle.std.proofs.Common.{◌≡◌, sym, ap, subst, ◌∙◌, get_or}
-use Rattle.object.proofs.Edges.{edge_is}
 use Rattle.plan.specs.Whole.{plan_of}
 use Rattle.request.specs.declared.types.Request.{Request}
 use Rattle.request.specs.Host.{with_bytes, host_request, request_kept, Alike}
@@ -14,12 +13,7 @@ returns c =
     λ i.
     record {
       opcode = c.opcode.ensures i;
-      scissor = record {
-        ulx = edge_is c.edge.type_inv c.edge.ensures i;
-        uly = edge_is c.edge-2.type_inv c.edge-2.ensures i;
-        lrx = edge_is c.edge-3.type_inv c.edge-3.ensures i;
-        lry = edge_is c.edge-4.type_inv c.edge-4.ensures i;
-      };
+      scissor = c.scissor_from.ensures i;
       mode = c.mode.ensures i;
       address = get_or ws 6 0;
     } in

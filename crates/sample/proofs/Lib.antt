@@ -1,0 +1,4 @@
+-- Laws of the definitions in specs/.
+pub mod Cell
+pub mod Left
+pub mod Shows
