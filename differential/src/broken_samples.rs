@@ -327,8 +327,8 @@ const READINGS: [(&str, Reading, &str); 10] = [
 
 type Change = fn(&mut Record, &mut Vec<Entry>);
 
-/// What is changed in the record or its plan, and what is found then of the two frames. Loads are
-/// entries 4, 9 and 14 of the plan, each with its rectangle behind it. Where a load only ends too
+/// What is changed in the record or its plan, and what is found then of the two frames. The first
+/// three loads are entries 4, 9 and 14 of the plan, each with its rectangle behind it. Where a load only ends too
 /// early, every cell is answered as it is shown, so that nothing but the load's columns and rows can
 /// tell.
 const PLANS: [(&str, Change, &str); 22] = [

@@ -10,7 +10,7 @@
 //! words and, now and then, into one of any length and one of no words. Then it is stepped to its
 //! end and beyond, with the planner of the record before it stepped in between; and its rectangles
 //! are measured into buffers of three lengths. The cells of its frame are counted where it is a
-//! finished copy plan, and each of them is asked for by itself; of other records a few cells are. One
+//! finished copy plan, and each of them is asked for by itself; of every record a few cells are. One
 //! in four of those with a load comes again, with its image so near the last address that one of its
 //! loads ends there. Beside one in sixteen a copy object is written from a random picture, and its
 //! plans are compared as those of the records.

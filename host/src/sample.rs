@@ -54,9 +54,10 @@ pub enum Sample {
 ///
 /// It is proved of each cell of a finished copied plan that the one rectangle that meets it shows
 /// there, by the load before it, the same column and row, which are among the load's, if that load
-/// has at most 1,024 columns or the frame is not flipped. Cell i of a [`Rect`](crate::Rect) shows number `uls` / 32 + i of
-/// its [`Load`](crate::Load): 0 is the load's first column, and counting down from it -1 is the
-/// first again and -2 the second. Its line j shows the load's first row plus j.
+/// has at most 1,024 columns or the frame is not flipped. Cell i of a [`Rect`](crate::Rect) shows
+/// number `uls` / 32 + i of its [`Load`](crate::Load): 0 is the load's first column, and counting
+/// down from it -1 is the first again and -2 the second. Its line j shows the load's first row
+/// plus j.
 #[must_use]
 pub fn sample(object: &[u8], scissor: Scissor, column: u64, line: u64) -> Sample {
     match ffi::sample(object, &scissor.words(), column, line) {

@@ -1,9 +1,9 @@
 -- A strip's rectangle and load show at each of its cells the column and row that the frame's numbers say. A remainder moves along with the cell as long as it stays below the modulus, which the strip's bounds say; and a rectangle's first texel fits its 16 bits, which for a flipped strip needs a load of at most 1,024 columns.
 -- Assumes nothing.
-use Rattle.std.specs.Prelude.{◌≡◌, refl, Bool, true, false, cond, ℕ, suc, ◌+◌, ◌-◌, ◌*◌, ◌≤◌, ◌<◌, min, ℤ, pos, negsuc, neg_ℤ, ◌+ℤ◌, ◌-ℤ◌, ◌*ℤ◌}
+use Rattle.std.specs.Prelude.{◌≡◌, refl, Bool, true, false, cond, ℕ, suc, ◌+◌, ◌-◌, ◌*◌, ◌≤◌, ◌<◌, min, ℤ, pos, negsuc, neg_ℤ, ◌+ℤ◌, ◌*ℤ◌}
 use Rattle.std.proofs.Common.{sym, ap, ◌∙◌, arith, SFits, w16, to_z}
 use Rattle.std.proofs.lemmas.Int.{to_z-of_z}
-use Rattle.signed.specs.Diff.{up, dn, add_is, neg_is, zdiff, zarith}
+use Rattle.signed.specs.Diff.{up, dn, zdiff, zparts, zarith}
 use Rattle.signed.specs.Floor.{floor_div, modulo, modulo_lt, floor_is, unique}
 use Rattle.signed.specs.Word.{bits_modulo}
 use Rattle.signed.specs.Cast.{i16}
@@ -22,9 +22,6 @@ use Rattle.cells.proofs.Shown.{look_of}
 -- r is z' modulo m where it is below m, and as far from z modulo m as z' is from z
 moved : (z z' : ℤ) (m r : ℕ) → r < m → up z' + dn z + modulo z m ≡ up z + dn z' + r → modulo z' m ≡ r
 moved z z' m r h e = sym (unique z' m (floor_div z m) r h (omega (arith, floor_is z m (omega arith)))).rest
-
-less : (a b : ℕ) → up (pos a -ℤ pos b) + b ≡ a + dn (pos a -ℤ pos b)
-less a b = omega (arith, add_is (pos a) (neg_ℤ (pos b)), (neg_is (pos b)).0, (neg_is (pos b)).1)
 
 -- ---- a rectangle's first texel
 
@@ -82,26 +79,22 @@ module _ (c : Copy) (s : SoundCopy c) (x : ℕ) (h : x < c.width) where
 
   -- ---- cell k of the strip
 
-  -- the image column of a cell before the wrap, the way that a frame runs
-  abbrev runs : Bool → ℕ → ℤ
-  runs f i = cond f (pos (c.source_x + c.frame_cells) -ℤ pos (1 + c.x_skip + i)) (pos (c.source_x + c.x_skip + i))
+  -- the column before the wrap goes up with the cell, or down
+  ahead : (k : ℕ) → c.flip ≡ false → up (column c (x + k)) + dn (column c x) ≡ up (column c x) + dn (column c (x + k)) + k
+  ahead k t = rw t (omega arith)
+
+  behind : (k : ℕ) → c.flip ≡ true → up (column c (x + k)) + dn (column c x) + k ≡ up (column c x) + dn (column c (x + k))
+  behind k t = rw t (simp zdiff (simp zparts (omega zarith)))
 
   module _ (k : ℕ) (l : k < strip.strip_width) where
     plain_column : c.flip ≡ false → modulo (column c (x + k)) c.image_width ≡ first + k
-    plain_column t =
-        let q = columns_of.plain t in
-        let e : column c x ≡ runs false x = ap (λ (f : Bool). runs f x) t in
-        let e' : column c (x + k) ≡ runs false (x + k) = ap (λ (f : Bool). runs f (x + k)) t in
-        moved (column c x) (column c (x + k)) c.image_width (first + k) (omega arith) (omega (arith, ap up e, ap dn e, ap up e', ap dn e'))
+    plain_column t = let q = columns_of.plain t in moved (column c x) (column c (x + k)) c.image_width (first + k) (omega arith) (omega (arith, ahead k t))
 
     turned_column : c.flip ≡ true → modulo (column c (x + k)) c.image_width ≡ first - k
     turned_column t =
         let q = columns_of.turned t in
         let m = modulo_lt (column c x) s.image_width in
-        let e : column c x ≡ runs true x = ap (λ (f : Bool). runs f x) t in
-        let e' : column c (x + k) ≡ runs true (x + k) = ap (λ (f : Bool). runs f (x + k)) t in
-        moved (column c x) (column c (x + k)) c.image_width (first - k) (omega arith)
-        (omega (arith, ap up e, ap dn e, ap up e', ap dn e', less (c.source_x + c.frame_cells) (1 + c.x_skip + x), less (c.source_x + c.frame_cells) (1 + c.x_skip + (x + k))))
+        moved (column c x) (column c (x + k)) c.image_width (first - k) (omega arith) (omega (arith, behind k t))
 
     -- the number of the load that the rectangle shows there
     abbrev number : ℤ

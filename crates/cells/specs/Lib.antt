@@ -1,4 +1,4 @@
--- The strips of a copy plan as a list of places, what is claimed of them, and of the cells that their rectangles meet.
+-- The strips of a copy plan as a list of places, what is claimed of them, and of the cells that their rectangles meet and show.
 pub mod Places
 pub mod Given
 pub mod Met

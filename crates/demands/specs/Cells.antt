@@ -1,4 +1,4 @@
--- When a copy plan has been stepped to its end, and that entries are a whole finished plan's. proofs/Cells.antt has what then holds of its cells.
+-- When a copy plan has been stepped to its end, and when entries are all of a finished plan's. proofs/Cells.antt has what then holds of its cells.
 -- Assumes nothing.
 use Rattle.std.specs.Prelude.{◌≡◌, Bool, false, cond, Ok, Err, List, [], ◌∷◌, ℕ, eqb, get_or}
 use Rattle.object.specs.declared.types.Verdict.TheVariants as verdict

@@ -64,7 +64,7 @@ module _ (bg : ObjBg) (s : Scissor) (address : ℕ) where
   unfolding plain_row copy_of axis_of
   row_is j = omega arith
 
-  pub cell_is : (i j : ℕ) → bg.image_flip ≤ 1 → cell_in frame i j ≡ sample_in bg s i j
+  cell_is : (i j : ℕ) → bg.image_flip ≤ 1 → cell_in frame i j ≡ sample_in bg s i j
   unfolding cell_in sample_in copy_of
   cell_is i j h =
       let m : bg.image_flip % 2 ≡ bg.image_flip = omega arith in
@@ -78,7 +78,7 @@ kind_at : (p : ℕ) (bs : List ℕ) (s : Scissor) (r : Checked) → checked_of p
 kind_at p bs s r e = subst (Kind p bs) e (copy_kind p bs s)
 
 -- the object of a copy that is not refused is the decoded one
-pub checked_copy : (p : ℕ) (bs : List ℕ) (s : Scissor) (bg : ObjBg) → checked_of p bs 10 s ≡ Ok (background.Copy bg) → bg ≡ decode p true bs
+checked_copy : (p : ℕ) (bs : List ℕ) (s : Scissor) (bg : ObjBg) → checked_of p bs 10 s ≡ Ok (background.Copy bg) → bg ≡ decode p true bs
 checked_copy p bs s bg e = kind_at p bs s (Ok (background.Copy bg)) e
 
 pub checked_scaled : (p : ℕ) (bs : List ℕ) (s : Scissor) (bg : ObjBg) → checked_of p bs 10 s ≡ Ok (background.Scaled bg) → ⊥

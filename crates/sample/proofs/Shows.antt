@@ -5,11 +5,9 @@ use Rattle.std.proofs.Common.{sym, ap, subst, ◌∙◌, true≢false, arith, eq
 use Rattle.signed.specs.Floor.{modulo}
 use Rattle.object.specs.declared.types.Verdict.TheVariants as verdict
 use Rattle.object.specs.Layout.{Bytes}
-use Rattle.checks.specs.Check.{verdict_number}
 use Rattle.checks.proofs.Passed.{passed_copy}
 use Rattle.plan.specs.Request.{Request}
 use Rattle.plan.specs.declared.types.Copy.{Copy}
-use Rattle.plan.specs.Out.{Plan}
 use Rattle.plan.specs.Copy.{column, copy_empty, strip_row_of, strip_height_of}
 use Rattle.plan.specs.Whole.{plan_with}
 use Rattle.plan.specs.Sound.{SoundCopy}
@@ -17,9 +15,8 @@ use Rattle.copy.specs.Walk.{place_at, image_entry}
 use Rattle.cells.specs.Places.{places_of}
 use Rattle.cells.specs.Given.{entries_of}
 use Rattle.cells.specs.Shown.{looks_at}
-use Rattle.cells.specs.Course.{object_in, frame_of, Course}
-use Rattle.cells.specs.Course.Course.{refused, empty, framed}
-use Rattle.cells.proofs.Course.{course, passed}
+use Rattle.cells.specs.Course.{object_in, frame_of}
+use Rattle.cells.proofs.Course.{passed}
 use Rattle.cells.proofs.Finished.{of_finished}
 use Rattle.cells.proofs.Shown.{look_of, shown_by, shown_beyond}
 use Rattle.cells.proofs.Texels.{seen}

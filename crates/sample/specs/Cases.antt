@@ -116,7 +116,7 @@ pub small : T (agrees 0x0000004000000040000000080000000800000000fff4000200000000
 unfolding agrees
 small = tt
 
--- 28 by 9 cells over an image of 21 by 5 texels, and the same flipped
+-- 28 by 9 cells over an image of 21 by 5 texels, and 29 by 10 over another of so many, flipped
 pub wrapped : T (agrees 0x02620054fff30082004600160003002b00000000fff400010000000000000008000800000001000000010002014000f0000000000a0000000000001000)
 unfolding agrees
 wrapped = tt
@@ -130,7 +130,7 @@ pub last : T (agrees_in 0x0000050000000500000003c0000003c000000000fff40002000000
 unfolding agrees_in
 last = tt
 
--- a load of 1,025 columns: unflipped its cells agree; flipped the rectangle's first texel does not fit 16 bits, and its first cell and its last differ
+-- a load of 1,025 columns: unflipped its first cell and its last agree; flipped the rectangle's first texel does not fit 16 bits, and its first cell and its last differ
 pub wide : T (agrees_in 0x0040104000000ffc000000040000000400000000fff40000000000000000000400040000000100000000000003ff00f0000000000a0000000000001000 0 0 && agrees_in 0x0040104000000ffc000000040000000400000000fff40000000000000000000400040000000100000000000003ff00f0000000000a0000000000001000 1022 0)
 unfolding agrees_in
 wide = tt
