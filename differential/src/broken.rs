@@ -22,13 +22,7 @@ fn four_strips() -> Record {
         tail: [0, 128, 128, 0, 1, 0],
         ..Default::default()
     };
-    Record {
-        object: object.to_bytes(),
-        scissor: [0, 0, 320, 240],
-        render_mode: 0,
-        opcode: COPY,
-        address: 4096,
-    }
+    Record::on_screen(&object, COPY)
 }
 
 type Change = fn(&mut Record, &mut Vec<Entry>);

@@ -29,13 +29,7 @@ fn clipped(flip: u16) -> Record {
         tail: [0, 19, 19, 0, 1, 0],
         ..Default::default()
     };
-    Record {
-        object: object.to_bytes(),
-        scissor: [0, 0, 320, 240],
-        render_mode: 0,
-        opcode: COPY,
-        address: 4096,
-    }
+    Record::on_screen(&object, COPY)
 }
 
 type Answers = fn(&Engine, [u64; 2]) -> Reply;

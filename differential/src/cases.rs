@@ -9,18 +9,6 @@ pub struct Case {
     pub record: Record,
 }
 
-const SCISSOR: [u16; 4] = [0, 0, 320, 240];
-
-fn record(object: &Object, opcode: u8) -> Record {
-    Record {
-        object: object.to_bytes(),
-        scissor: SCISSOR,
-        render_mode: 0,
-        opcode,
-        address: 4096,
-    }
-}
-
 /// Image and frame alike, at 0, in L's format and load.
 fn picture(width: u16, height: u16) -> Object {
     Object {
@@ -63,7 +51,7 @@ pub fn all() -> Vec<Case> {
     let e = scaled(1280, 960, 1024);
     let i = Record {
         scissor: [0, 0, 1023, 240],
-        ..record(
+        ..Record::on_screen(
             &Object {
                 siz: 3,
                 image_x: 22400,
@@ -82,38 +70,54 @@ pub fn all() -> Vec<Case> {
             record,
         })
     };
-    add("L", 40, record(&l, COPY));
-    add("A", 40, record(&copied(1280, 960, 24), COPY));
-    add("B", 40, record(&copied(1280, 960, 28), COPY));
-    add("C", 40, record(&copied(1024, 36, 32), COPY));
-    add("D", 40, record(&copied(1024, 36, 36), COPY));
-    add("E", 40, record(&e, SCALED));
-    add("G", 40, record(&Object { frame_h: 3, ..e }, SCALED));
-    add("H", 40, record(&scaled(1280, 960, 1000), SCALED));
+    add("L", 40, Record::on_screen(&l, COPY));
+    add("A", 40, Record::on_screen(&copied(1280, 960, 24), COPY));
+    add("B", 40, Record::on_screen(&copied(1280, 960, 28), COPY));
+    add("C", 40, Record::on_screen(&copied(1024, 36, 32), COPY));
+    add("D", 40, Record::on_screen(&copied(1024, 36, 36), COPY));
+    add("E", 40, Record::on_screen(&e, SCALED));
+    add(
+        "G",
+        40,
+        Record::on_screen(&Object { frame_h: 3, ..e }, SCALED),
+    );
+    add("H", 40, Record::on_screen(&scaled(1280, 960, 1000), SCALED));
     add("I", 40, i);
     add("J", 40, Record { address: 0, ..i });
-    add("O", 40, record(&half_a_row_down(1000), SCALED));
-    add("K-copy-39", 39, record(&l, COPY));
-    add("K-copy-40", 40, record(&l, COPY));
-    add("K-scaled-35", 35, record(&e, SCALED));
-    add("K-scaled-36", 36, record(&e, SCALED));
-    add("M-copy-fmt-4", 40, record(&Object { fmt: 4, ..l }, COPY));
-    add("M-copy-fmt-5", 40, record(&Object { fmt: 5, ..l }, COPY));
+    add("O", 40, Record::on_screen(&half_a_row_down(1000), SCALED));
+    add("K-copy-39", 39, Record::on_screen(&l, COPY));
+    add("K-copy-40", 40, Record::on_screen(&l, COPY));
+    add("K-scaled-35", 35, Record::on_screen(&e, SCALED));
+    add("K-scaled-36", 36, Record::on_screen(&e, SCALED));
+    add(
+        "M-copy-fmt-4",
+        40,
+        Record::on_screen(&Object { fmt: 4, ..l }, COPY),
+    );
+    add(
+        "M-copy-fmt-5",
+        40,
+        Record::on_screen(&Object { fmt: 5, ..l }, COPY),
+    );
     add(
         "M-scaled-fmt-4",
         40,
-        record(&Object { fmt: 4, ..e }, SCALED),
+        Record::on_screen(&Object { fmt: 4, ..e }, SCALED),
     );
     add(
         "M-scaled-fmt-5",
         40,
-        record(&Object { fmt: 5, ..e }, SCALED),
+        Record::on_screen(&Object { fmt: 5, ..e }, SCALED),
     );
-    add("N-copy", 40, record(&Object { load: 0x0033, ..l }, COPY));
+    add(
+        "N-copy",
+        40,
+        Record::on_screen(&Object { load: 0x0033, ..l }, COPY),
+    );
     add(
         "N-scaled",
         40,
-        record(&Object { load: 0x0033, ..e }, SCALED),
+        Record::on_screen(&Object { load: 0x0033, ..e }, SCALED),
     );
     cases
 }

@@ -163,9 +163,24 @@ impl Claims {
     }
 
     pub fn check(&mut self, number: usize, record: &Record, settings: &Settings, answer: &Answer) {
+        self.check_bank(number, record, settings, answer);
+        if answer.plan.entries.iter().any(|e| e[0] == LOAD) {
+            self.check_loads(number, record, answer);
+        }
+        if record.opcode == COPY {
+            self.check_copy(number, record, answer);
+        }
+        if cells::finished_copy(record, answer) {
+            self.check_cells(number, record, answer);
+        }
+        if record.opcode == SCALED && answer.plan.notes.slices.is_some() {
+            self.check_scaled(number, record, answer);
+        }
+    }
+
+    fn check_bank(&mut self, number: usize, record: &Record, settings: &Settings, answer: &Answer) {
         let verdict = answer.end.verdict;
-        let entries = &answer.plan.entries;
-        let replayed = replayed(&settings.bank, entries);
+        let replayed = replayed(&settings.bank, &answer.plan.entries);
         if verdict == 9 && answer.plan.refused_load {
             self.note(
                 "bank after a refused load: only tile 7's size may differ",
@@ -181,35 +196,28 @@ impl Claims {
                 replayed == answer.bank,
             );
         }
-        if entries.iter().any(|e| e[0] == LOAD) {
-            self.note(
-                "load request's equations",
-                number,
-                record,
-                loads_hold(entries),
-            );
-            self.note(
-                "each load ends by 2^64 - 1",
-                number,
-                record,
-                loads_end(entries),
-            );
-            self.note(
-                "tile words are the largest rows × line",
-                number,
-                record,
-                largest_load(entries) == answer.end.tile_words,
-            );
-        }
-        if record.opcode == COPY {
-            self.check_copy(number, record, answer);
-        }
-        if cells::finished_copy(record, answer) {
-            self.check_cells(number, record, answer);
-        }
-        if record.opcode == SCALED && answer.plan.notes.slices.is_some() {
-            self.check_scaled(number, record, answer);
-        }
+    }
+
+    fn check_loads(&mut self, number: usize, record: &Record, answer: &Answer) {
+        let entries = &answer.plan.entries;
+        self.note(
+            "load request's equations",
+            number,
+            record,
+            loads_hold(entries),
+        );
+        self.note(
+            "each load ends by 2^64 - 1",
+            number,
+            record,
+            loads_end(entries),
+        );
+        self.note(
+            "tile words are the largest rows × line",
+            number,
+            record,
+            largest_load(entries) == answer.end.tile_words,
+        );
     }
 
     fn check_copy(&mut self, number: usize, record: &Record, answer: &Answer) {

@@ -41,13 +41,7 @@ fn scaled(
 }
 
 fn finished(object: &mut Object, opcode: u8, change: impl Fn(&mut Object, &mut Record)) -> Record {
-    let mut record = Record {
-        object: object.to_bytes(),
-        scissor: [0, 0, 320, 240],
-        render_mode: 0,
-        opcode,
-        address: 4096,
-    };
+    let mut record = Record::on_screen(object, opcode);
     change(object, &mut record);
     record.object = object.to_bytes();
     record

@@ -22,6 +22,18 @@ pub struct Record {
 }
 
 impl Record {
+    /// An object as the worked cases ask for it: on a screen of 320 by 240 pixels, with its image at
+    /// 4,096.
+    pub fn on_screen(object: &Object, opcode: u8) -> Self {
+        Record {
+            object: object.to_bytes(),
+            scissor: [0, 0, 320, 240],
+            render_mode: 0,
+            opcode,
+            address: 4096,
+        }
+    }
+
     /// The record of 122 hexadecimal digits.
     pub fn from_hex(digits: &str) -> Self {
         let mut bytes = [0; RECORD_BYTES];

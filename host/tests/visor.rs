@@ -109,6 +109,14 @@ fn golden(name: &str, arguments: &[&str]) {
     kept(name, arguments, visor(arguments));
 }
 
+/// The same of several, each by the line that is typed.
+fn all_golden(lines: &[(&str, &str)]) {
+    for (name, line) in lines {
+        let arguments: Vec<&str> = line.split(' ').collect();
+        golden(name, &arguments);
+    }
+}
+
 /// The same of a run elsewhere.
 fn kept(name: &str, arguments: &[&str], run: Ran) {
     let Ran { out, err, status } = run;
@@ -194,7 +202,7 @@ fn differences() {
 /// Objects of pictures, and the pictures that have none.
 #[test]
 fn objects_made_from_pictures() {
-    for (name, line) in [
+    all_golden(&[
         ("make", "make 320 240 rgba 16b"),
         ("make-ci", "make 301 20 CI 4b --pointer 0x06000000"),
         (
@@ -205,17 +213,14 @@ fn objects_made_from_pictures() {
         ("make-refused-width", "make 2049 240 rgba 16b"),
         ("make-refused-both", "make 0 16384 ci 8b"),
         ("make-refused-texels", "make 0 240 5 16"),
-    ] {
-        let arguments: Vec<&str> = line.split(' ').collect();
-        golden(name, &arguments);
-    }
+    ]);
 }
 
 /// Cells at a wrap and at a flip, outside, of a load that is too wide for the claim, and of refused
 /// plans and objects.
 #[test]
 fn cells_of_copies() {
-    for (name, line) in [
+    all_golden(&[
         ("cell-wrap", "cell ../visor/wrap.bin 19 0"),
         ("cell-flip", "cell ../visor/flip.bin 18 3"),
         ("cell-wide", "cell ../visor/wide.bin 0 0"),
@@ -233,10 +238,7 @@ fn cells_of_copies() {
         ),
         ("cell-refused", "cell N-copy.bin 0 0"),
         ("cell-scaled", "cell E.bin 0 0"),
-    ] {
-        let arguments: Vec<&str> = line.split(' ').collect();
-        golden(name, &arguments);
-    }
+    ]);
 }
 
 /// The project's README, where it is at hand, has two of them as they are printed.

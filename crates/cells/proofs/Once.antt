@@ -1,6 +1,6 @@
 -- The rectangles of a copy plan meet each cell of the clipped frame once, each quarter of it once, and nothing else: a rectangle meets a square where its strip covers the square's cell, and one strip covers it.
 -- Assumes nothing.
-use Rattle.std.specs.Prelude.{◌≡◌, refl, Bool, true, false, cond, ◌&&◌, ◌||◌, List, [], ◌∷◌, ℕ, ◌+◌, ◌-◌, ◌/◌, ◌≤◌, ◌<◌, ltb, leb, eqb, length, filter}
+use Rattle.std.specs.Prelude.{◌≡◌, ◌⊎◌, refl, Bool, true, false, cond, ◌&&◌, ◌||◌, List, [], ◌∷◌, ℕ, ◌+◌, ◌-◌, ◌/◌, ◌≤◌, ◌<◌, ltb, leb, eqb, length, filter}
 use Rattle.std.proofs.Common.{inl, inr, sym, ap, ◌∙◌, true≢false, arith, ltb-true, ltb-false, lt-ltb, le-ltb, leb-true, leb-false, le-leb, eqb-true}
 use Rattle.std.proofs.lemmas.Bool.{and_left, and_right, lt-leb, ltb_from_iff}
 use Rattle.measures.specs.Measure.{quarters, of_texels}
@@ -143,18 +143,21 @@ module _ (c : Copy) (s : SoundCopy c) where
 
 -- ---- an empty frame has neither
 
+pub empty_axis : (c : Copy) → copy_empty c ≡ true → c.width ≡ 0 ⊎ c.height ≡ 0
+empty_axis c e = by (eqb c.width 0) (eqb c.height 0) refl refl e
+  where
+    by : (t u : Bool) → eqb c.width 0 ≡ t → eqb c.height 0 ≡ u → (t || u) ≡ true → c.width ≡ 0 ⊎ c.height ≡ 0
+    by true u f g h = inl (eqb-true c.width 0 f)
+    by false true f g h = inr (eqb-true c.height 0 g)
+    by false false f g h = absurd (true≢false (sym h))
+
 pub empty_once : (c : Copy) → copy_empty c ≡ true → EachCellOnce (quarters c.left) (quarters c.top) c.width c.height []
 unfolding met_at
-empty_once c e = by (eqb c.width 0) (eqb c.height 0) refl refl e
+empty_once c e = by (empty_axis c e)
   where
     none : (x y : ℕ) → inside (quarters c.left) (quarters c.top) c.width c.height x y ≡ false → ◌≡◌ {A = ℕ} 0 (cond (inside (quarters c.left) (quarters c.top) c.width c.height x y) 1 0)
     none x y f = sym (ap (λ (t : Bool). cond t 1 0) f)
 
-    by : (t u : Bool) → eqb c.width 0 ≡ t → eqb c.height 0 ≡ u → (t || u) ≡ true → EachCellOnce (quarters c.left) (quarters c.top) c.width c.height []
-    by true u f g h =
-        let z = eqb-true c.width 0 f in
-        record { cells = λ i j a b. absurd (omega arith); units = λ x y. none x y (and_left _ _ (between_none (quarters c.left) c.width x z)) }
-    by false true f g h =
-        let z = eqb-true c.height 0 g in
-        record { cells = λ i j a b. absurd (omega arith); units = λ x y. none x y (and_right _ _ (between_none (quarters c.top) c.height y z)) }
-    by false false f g h = absurd (true≢false (sym h))
+    by : c.width ≡ 0 ⊎ c.height ≡ 0 → EachCellOnce (quarters c.left) (quarters c.top) c.width c.height []
+    by (inl z) = record { cells = λ i j a b. absurd (omega arith); units = λ x y. none x y (and_left _ _ (between_none (quarters c.left) c.width x z)) }
+    by (inr z) = record { cells = λ i j a b. absurd (omega arith); units = λ x y. none x y (and_right _ _ (between_none (quarters c.top) c.height y z)) }

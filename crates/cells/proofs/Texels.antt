@@ -13,7 +13,7 @@ use Rattle.plan.specs.Copy.{column, strip_of, strip_row_of, strip_height_of}
 use Rattle.plan.specs.Sound.{SoundCopy}
 use Rattle.strips.specs.Strip.{width_of, left_of, strip_bounds, aligned_is, height_in}
 use Rattle.copy.specs.Walk.{place_at, first_texel}
-use Rattle.cells.specs.Shown.{Loaded, numbered, Look, FromLoad}
+use Rattle.cells.specs.Shown.{Loaded, numbered, Look, FromLoad, Claimed}
 use Rattle.cells.proofs.Loads.{load_bounds}
 use Rattle.cells.proofs.Shown.{look_of}
 
@@ -136,8 +136,8 @@ module _ (c : Copy) (s : SoundCopy c) (x : ℕ) (h : x < c.width) where
 
 pub record Seen (c : Copy) (x y k j : ℕ) (l : Look) : Type 0 where
   pub row : l.row ≡ strip_row_of c (y + j)
-  pub column : (c.flip ≡ true → l.load.columns ≤ 1024) → l.column ≡ modulo (column c (x + k)) c.image_width
-  pub loaded : (c.flip ≡ true → l.load.columns ≤ 1024) → FromLoad l
+  pub column : Claimed c l → l.column ≡ modulo (column c (x + k)) c.image_width
+  pub loaded : Claimed c l → FromLoad l
 
 pub seen : (c : Copy) (x y k j : ℕ) → SoundCopy c → x < c.width → y < c.height → k < (strip_of c x).strip_width → j < strip_height_of c y → Seen c x y k j (look_of (place_at c x y (strip_row_of c y) (strip_height_of c y)) k j)
 seen c x y k j s h g m n =
@@ -146,7 +146,7 @@ seen c x y k j s h g m n =
     let r = height_in c y s g in
     let l = look_of (place_at c x y (strip_row_of c y) (strip_height_of c y)) k j in
     let wide : l.load.columns ≡ (strip_of c x).load_width = omega (arith, t.left, t.right) in
-    let shown = λ (w : c.flip ≡ true → l.load.columns ≤ 1024). shown_column c s x h k m l.load t.left (λ f. let v = w f in omega arith) in
+    let shown = λ (w : Claimed c l). shown_column c s x h k m l.load t.left (λ f. let v = w f in omega arith) in
     record {
       row = omega (arith, t.top, moved (pos (c.source_y + y)) (pos (c.source_y + (y + j))) c.image_height (strip_row_of c y + j) (omega arith) (omega arith));
       column = λ w. (shown w).is;

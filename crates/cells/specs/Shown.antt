@@ -1,8 +1,9 @@
 -- What the rectangles of a list of entries show, by the loads before them: from the entries alone, 16.3 of docs/SPECIFICATION.md, which is D.
 -- Assumes nothing.
-use Rattle.std.specs.Prelude.{cond, Option, Some, None, List, [], ◌∷◌, ℕ, ◌+◌, ◌-◌, ◌/◌, ◌<◌, ℤ, pos, negsuc, ◌+ℤ◌}
+use Rattle.std.specs.Prelude.{◌≡◌, true, cond, Option, Some, None, List, [], ◌∷◌, ℕ, ◌+◌, ◌-◌, ◌/◌, ◌<◌, ◌≤◌, ℤ, pos, negsuc, ◌+ℤ◌}
 use Rattle.signed.specs.Floor.{floor_div}
 use Rattle.measures.specs.Measure.{texels}
+use Rattle.plan.specs.declared.types.Copy.{Copy}
 use Rattle.plan.specs.declared.types.Entry.{Entry}
 use Rattle.plan.specs.declared.types.Entry.TheVariants.{Image, Tile, Size, Load, Rect}
 use Rattle.cells.specs.Met.{meets}
@@ -51,3 +52,7 @@ looks_at side x y l (Rect i ulx uly lrx lry uls ult dsdx dtdy row ∷ es) =
 pub record FromLoad (l : Look) : Type 0 where
   pub column : l.column < l.load.column + l.load.columns
   pub row : l.row < l.load.row + l.load.rows
+
+-- D "where a load is at most 1,024 columns wide": by the look's own load, and in a flipped frame alone
+abbrev pub Claimed : Copy → Look → Type 0
+Claimed c l = c.flip ≡ true → l.load.columns ≤ 1024

@@ -1,7 +1,7 @@
 -- Of every finished copy plan of a request, for pointers of p bytes: each cell's rectangle and load show what the engine answers. By the strip that covers the cell, whose numbers are those of the frame, as the engine's are.
 -- Assumes nothing.
-use Rattle.std.specs.Prelude.{◌≡◌, ◌⊎◌, refl, Bool, true, false, ◌||◌, [], ◌∷◌, ℕ, ◌+◌, ◌-◌, ◌≤◌, ◌<◌, eqb}
-use Rattle.std.proofs.Common.{sym, ap, subst, ◌∙◌, true≢false, arith, eqb-true}
+use Rattle.std.specs.Prelude.{◌≡◌, ◌⊎◌, refl, true, [], ◌∷◌, ℕ, ◌+◌, ◌-◌, ◌≤◌, ◌<◌}
+use Rattle.std.proofs.Common.{inl, inr, sym, ap, subst, ◌∙◌, arith}
 use Rattle.signed.specs.Floor.{modulo}
 use Rattle.object.specs.declared.types.Verdict.TheVariants as verdict
 use Rattle.object.specs.Layout.{Bytes}
@@ -17,6 +17,7 @@ use Rattle.cells.specs.Given.{entries_of}
 use Rattle.cells.specs.Shown.{looks_at}
 use Rattle.cells.specs.Course.{object_in, frame_of}
 use Rattle.cells.proofs.Course.{passed}
+use Rattle.cells.proofs.Once.{empty_axis}
 use Rattle.cells.proofs.Finished.{of_finished}
 use Rattle.cells.proofs.Shown.{look_of, shown_by, shown_beyond}
 use Rattle.cells.proofs.Texels.{seen}
@@ -39,8 +40,8 @@ module _ (c : Copy) (s : SoundCopy c) where
       record {
         look = look;
         is = w.is;
-        loaded = λ n. v.loaded (λ t. let w = n t in omega arith);
-        agrees = λ n. sym (cell_texel c i j a b (v.column (λ t. let w = n t in omega arith) ∙ ap (λ (x : ℕ). modulo (column c x) c.image_width) k) (v.row ∙ ap (strip_row_of c) m));
+        loaded = v.loaded;
+        agrees = λ n. sym (cell_texel c i j a b (v.column n ∙ ap (λ (x : ℕ). modulo (column c x) c.image_width) k) (v.row ∙ ap (strip_row_of c) m));
       }
 
   cell_beyond : (i j : ℕ) → c.width ≤ i ⊎ c.height ≤ j → CellBeyond c (image_entry c ∷ entries_of (places_of c)) i j (cell_in c i j)
@@ -52,16 +53,11 @@ module _ (c : Copy) (s : SoundCopy c) where
 -- an empty frame has no cells
 empty_shows : (c : Copy) → copy_empty c ≡ true → Shows c (cell_in c) []
 unfolding looks_at
-empty_shows c e =
-    record {
-      cells = λ i j a b. absurd (none i j a b (eqb c.width 0) (eqb c.height 0) refl refl e);
-      beyond = λ i j h. record { is = refl; agrees = cell_outside c i j h };
-    }
+empty_shows c e = record { cells = λ i j a b. absurd (none i j a b (empty_axis c e)); beyond = λ i j h. record { is = refl; agrees = cell_outside c i j h } }
   where
-    none : (i j : ℕ) → i < c.width → j < c.height → (t u : Bool) → eqb c.width 0 ≡ t → eqb c.height 0 ≡ u → (t || u) ≡ true → ⊥
-    none i j a b true u f g h = let k = eqb-true c.width 0 f in omega arith
-    none i j a b false true f g h = let k = eqb-true c.height 0 g in omega arith
-    none i j a b false false f g h = true≢false (sym h)
+    none : (i j : ℕ) → i < c.width → j < c.height → c.width ≡ 0 ⊎ c.height ≡ 0 → ⊥
+    none i j a b (inl z) = omega arith
+    none i j a b (inr z) = omega arith
 
 -- ---- of a request
 

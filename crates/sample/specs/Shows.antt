@@ -1,20 +1,16 @@
 -- What the entries of a copy plan show at the cells of its frame, beside what an engine answers there: 16.4 of docs/SPECIFICATION.md, which is D.
 -- Assumes nothing.
-use Rattle.std.specs.Prelude.{◌≡◌, ◌⊎◌, true, Option, Some, None, List, [], ◌∷◌, ℕ, ◌+◌, ◌≤◌, ◌<◌}
+use Rattle.std.specs.Prelude.{◌≡◌, ◌⊎◌, Option, Some, None, List, [], ◌∷◌, ℕ, ◌+◌, ◌≤◌, ◌<◌}
 use Rattle.measures.specs.Measure.{quarters, of_texels}
 use Rattle.plan.specs.declared.types.Copy.{Copy}
 use Rattle.plan.specs.declared.types.Entry.{Entry}
-use Rattle.cells.specs.Shown.{Look, looks_at, FromLoad}
+use Rattle.cells.specs.Shown.{Look, looks_at, FromLoad, Claimed}
 use Rattle.sample.specs.declared.types.Sample.{Sample}
 use Rattle.sample.specs.declared.types.Sample.TheVariants.{Texel, Outside}
 
 -- what the rectangles that meet cell (i, j) show there
 abbrev pub looks_in : Copy → (i j : ℕ) → List Entry → List (Option Look)
 looks_in c i j es = looks_at 4 (quarters c.left + of_texels i) (quarters c.top + of_texels j) None es
-
--- D "where a load is at most 1,024 columns wide": by the cell's own load, and in a flipped frame alone
-abbrev pub Claimed : Copy → Look → Type 0
-Claimed c look = c.flip ≡ true → look.load.columns ≤ 1024
 
 -- D "each cell gets the same column and row from its rectangle and load as from this engine": one rectangle meets the cell, a load stands before it, and that load has the texel
 pub record CellShown (c : Copy) (es : List Entry) (i j : ℕ) (answer : Sample) : Type 0 where
