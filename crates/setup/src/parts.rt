@@ -16,6 +16,8 @@ pub struct SetUp {
 }
 
 // The parts, or the verdict of a plan that has no pass: an empty frame, or strips that are too small.
+// Joined with each caller: as a function of its own it would fill the parts of a verdict, which nothing reads, by a call of C's `memset`, and the archive for C calls nothing.
+#[inline(always)]
 pub fn set_up(bg: ObjBg, q: Request) -> Result<SetUp, Verdict>
     requires { PassedScaled bg q.scissor }
     ensures { SetUpIs bg q.scissor q.mode q.address result }
