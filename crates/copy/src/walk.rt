@@ -15,7 +15,7 @@ use strips::{strip_height, strip_of, strip_row};
 use tile::Bounds;
 
 // At cell x of the row of strips at line y; that it lies in the frame stands in clauses, as in `strips`.
-fn place_at(c: Copy, x: u64, y: u64, sy: u64, strip_height: u64) -> Place
+pub fn place_at(c: Copy, x: u64, y: u64, sy: u64, strip_height: u64) -> Place
     requires sound_copy { SoundCopy c }
     requires x_lt_width { x < c.width }
     ensures { result ≡ place_at c x y sy strip_height }
@@ -121,7 +121,7 @@ fn size_entry(p: Place) -> Entry
     }
 }
 
-fn area_of(p: Place) -> Bounds
+pub fn area_of(p: Place) -> Bounds
     requires { SoundPlace p }
     ensures { result ≡ area_of p }
 {
@@ -179,7 +179,7 @@ fn rect_entry(p: Place) -> Entry
 }
 
 // The strip does not fit texture memory.
-fn too_big(p: Place) -> bool
+pub fn too_big(p: Place) -> bool
     requires { SoundPlace p }
     ensures { result ≡ too_big p }
 {

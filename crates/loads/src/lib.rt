@@ -9,4 +9,6 @@ mod types;
 pub use load::{after_part, moved_on, whole_part};
 pub use rows::{less, plus, times};
 pub use sums::{advance, forward, source_address};
-pub use types::{Begun, Due, Part, Piece, Place, Reached, Refused, ScaledNext, Stage, Turn};
+pub use types::{
+    Begun, Choice, Due, Part, Piece, Place, Reached, Refused, ScaledNext, Split, Stage, Turn,
+};

@@ -14,10 +14,10 @@ pub struct Part {
 // The two parts of the image's last row: 1 where it is an odd one, where in texture memory the first goes, and its width.
 // `odd` is a number and no bool: it is added to a count of rows.
 #[derive(Clone, Copy)]
-pub(crate) struct Split {
-    pub(crate) odd: u64,
-    pub(crate) from: i64,
-    pub(crate) width: i64,
+pub struct Split {
+    pub odd: u64,
+    pub from: i64,
+    pub width: i64,
 }
 
 // Which part of a load that wraps is given: none yet, the rows from the image's top, the two parts of its last row, and the rows before that.
@@ -32,7 +32,7 @@ pub enum Piece {
 
 // What comes after a part: the whole load, where no row wraps; another part; the tile alone; or the move.
 #[derive(Clone, Copy)]
-pub(crate) enum Choice {
+pub enum Choice {
     Whole,
     Top,
     SplitB,

@@ -11,11 +11,18 @@
 ghost use Rattle.std.specs.Prelude.{◌≡◌};
 ghost use Rattle.giving.specs.Host.{words_after};
 ghost use Rattle.planner.specs.Coming.{answer_in, GivenIn};
+ghost use Rattle.stored.specs.Stored.{StoredIs};
 ghost use Rattle.stepping.specs.Host.{answer_words, sets_in, Moved, StepIs, StartIs};
 
 use planner::{Given, Planner};
 use request::Request;
 use stored_fields::State;
+
+fn state_of(p: Planner) -> State
+    ensures { StoredIs p result }
+{
+    stored::stored(p.course, p.counts)
+}
 
 fn out_words(given: Given) -> [u64; 11]
     ensures { result ≡ answer_words (answer_in given) }
@@ -46,7 +53,7 @@ fn moved(p: Planner, state: &mut State, bank: &mut [u64], out: &mut [u64; 11])
     ensures { Moved p bank.old state.new bank.new out.new }
 {
     let s = p.step();
-    *state = stored::stored(s.planner);
+    *state = state_of(s.planner);
     set_bank(bank, s.given);
     *out = out_words(s.given);
 }
@@ -55,10 +62,10 @@ fn moved(p: Planner, state: &mut State, bank: &mut [u64], out: &mut [u64; 11])
 pub fn visor_step(state: &mut [u64], bank: &mut [u64], out: &mut [u64]) -> u64
     ensures { StepIs state.old bank.old out.old result state.new bank.new out.new }
 {
-    let Some(state) = state.as_mut_array() else {
+    let Some(bank) = bank.as_mut_array::<136>() else {
         return 1;
     };
-    let Some(bank) = bank.as_mut_array::<136>() else {
+    let Some(state) = state.as_mut_array() else {
         return 1;
     };
     let Some(out) = out.as_mut_array() else {
@@ -82,6 +89,6 @@ pub fn visor_start(object: &[u8], request: &[u64], state: &mut [u64]) -> u64
         return 1;
     };
     let p = starts::fresh(object, q);
-    *state = stored::stored(p);
+    *state = state_of(p);
     0
 }

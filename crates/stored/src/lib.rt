@@ -3,4 +3,4 @@
 
 mod planner_words;
 
-pub use planner_words::{load, stored, words_of};
+pub use planner_words::{load, stored};

@@ -23,8 +23,8 @@ fn over_words(v: Verdict, n: Counts) -> State
     words
 }
 
-// The words of a course and its counts, whether or not they make a sound planner.
-pub fn words_of(course: Course, counts: Counts) -> State
+// The words of a course and its counts, whether or not they make a sound planner: as a value of `Planner`, whose type has only sound ones, they would be fewer. By its name and not `From`, as `load` is not `TryFrom`: the planner is another crate's type and its words are an array, so Rust lets this crate implement neither.
+pub fn stored(course: Course, counts: Counts) -> State
     ensures { StoredIs (planner_at course counts) result }
 {
     match course {
@@ -32,13 +32,6 @@ pub fn words_of(course: Course, counts: Counts) -> State
         Course::Scaled(stage, place) => stored_scaled::scaled_words(stage, place, counts),
         Course::Over(v) => over_words(v, counts),
     }
-}
-
-// A planner's words. By its name and not `From`, as `load` is not `TryFrom`: the planner is another crate's type and its words are an array, so Rust lets this crate implement neither.
-pub fn stored(p: Planner) -> State
-    ensures { StoredIs p result }
-{
-    words_of(p.course, p.counts)
 }
 
 // Total: a number above 10 reads as the last, and the comparison in `load` refuses it. The error of a TryFrom would refuse the same words a second time.
@@ -141,5 +134,5 @@ pub fn load(words: State) -> Option<Planner>
         return None;
     }
     let p = planner_from(&words);
-    (words == stored(p)).then_some(p)
+    (words == stored(p.course, p.counts)).then_some(p)
 }
