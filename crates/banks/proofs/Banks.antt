@@ -6,7 +6,8 @@ use Prim.Native.Nat.{ℕ, zero, suc, ◌%◌, ◌^◌, ◌<◌, ◌≤◌}
 use native.Mathlib.Nat.{mod-eq_of_lt}
 use native.Mathlib.Omega.{arith}
 use lib.ListN.{length, take, drop, get_or, set, length-set}
-use Rattle.std.proofs.lemmas.List.{get_or-take}
+use Rattle.std.specs.Prelude.{map}
+use Rattle.std.proofs.lemmas.List.{get_or-take, get_or-map, length-map}
 use Rattle.std.specs.List.{flat_map}
 use Rattle.std.specs.Simd.{first_chunks}
 use Rattle.tile.specs.declared.bank.Tile.{Tile}
@@ -55,6 +56,17 @@ tiles_are zero ws [] e h = refl
 tiles_are zero ws (t ∷ ts) e h = absurd (omega arith)
 tiles_are (suc n) ws [] e h = absurd (omega arith)
 tiles_are (suc n) ws (t ∷ ts) e h = λ j. (h 0 (omega arith) ∙ tile_of ws) j ∷ tiles_are n (drop 17 ws) ts (omega arith) (λ i l. h (suc i) (omega arith)) j
+
+-- so many chunks, however few words there are
+chunks_long : (n : ℕ) (ws : List ℕ) → length (first_chunks 17 n ws) ≡ n
+chunks_long zero ws = refl
+chunks_long (suc n) ws = omega (arith, chunks_long n (drop 17 ws))
+
+-- chunk by chunk the tiles are those of the words
+pub tiles_mapped : (n : ℕ) (ws : List ℕ) → map tile_from (first_chunks 17 n ws) ≡ tiles_from n ws
+tiles_mapped n ws =
+    let l = chunks_long n ws in
+    tiles_are n ws (map tile_from (first_chunks 17 n ws)) (length-map (first_chunks 17 n ws) tile_from ∙ l) (λ i h. get_or-map tile_from (first_chunks 17 n ws) i [] blank (omega (arith, h, l)))
 
 -- ---- a bank into words
 

@@ -51,7 +51,16 @@ pub fn bank_from(words: &[u64; 136]) -> Bank
 {
     let tiles = <[[u64; TILE]; 8]>::try_from(words.as_chunks::<TILE>().0).unwrap();
     Bank {
-        tiles: tiles.map(tile_from),
+        tiles: [
+            tile_from(tiles[0]),
+            tile_from(tiles[1]),
+            tile_from(tiles[2]),
+            tile_from(tiles[3]),
+            tile_from(tiles[4]),
+            tile_from(tiles[5]),
+            tile_from(tiles[6]),
+            tile_from(tiles[7]),
+        ],
     }
 }
 
